@@ -7,9 +7,9 @@ use Rattle.prov_outside.specs.Count.{Rose, one_more, faults_after}
 use Rattle.prov_outside.specs.Folder.{Files}
 use Rattle.prov_outside.specs.Tells.{Tells}
 use Rattle.prov_outside.specs.declared.trouble.Trouble.TheVariants.{Failed, Memory}
-use Rattle.delivery.specs.Ending.{Ending, done, uncaught, usage, refused, nothing_there, console_failed, folder_failed, store_failed, out_of_memory, out_of_steps, collision, store_full, damaged_trial, status_of, closing_line, ending_of, tells_of_store}
+use Rattle.delivery.specs.Ending.{Ending, done, uncaught, usage, refused, nothing_there, console_failed, folder_failed, store_failed, out_of_memory, out_of_steps, not_reached, collision, store_full, damaged_trial, status_of, closing_line, ending_of, tells_of_store}
 use Rattle.delivery.specs.declared.ending.Ending.{Ending as Planned}
-use Rattle.delivery.specs.declared.ending.Ending.TheVariants.{Done, Uncaught, Usage, Refused, NothingThere, FolderFailed, StoreFailed, OutOfSteps, Collision, StoreFull, DamagedTrial, OutOfMemory}
+use Rattle.delivery.specs.declared.ending.Ending.TheVariants.{Done, Uncaught, Usage, Refused, NothingThere, FolderFailed, StoreFailed, OutOfSteps, NotReached, Collision, StoreFull, DamagedTrial, OutOfMemory}
 use Rattle.delivery.specs.PutsAll.{OutFile, Outcome, PutsAll, faults_of, first_failed, lacks_memory, ending_after_puts}
 use Rattle.delivery.specs.Shown.{Closing, no_line, line_tried, line_unmade, Closes, Leaves, Shown, has_line, outlasts_console, after_text, after_line, line_of, outcome_of}
 use Rattle.delivery.specs.Delivered.{Delivered, ending_to_close}
@@ -118,6 +118,7 @@ zero_is (folder_failed path) is = absurd (omega (arith, is))
 zero_is store_failed is = absurd (omega (arith, is))
 zero_is out_of_memory is = absurd (omega (arith, is))
 zero_is out_of_steps is = absurd (omega (arith, is))
+zero_is not_reached is = absurd (omega (arith, is))
 zero_is (collision digest kept given) is = absurd (omega (arith, is))
 zero_is store_full is = absurd (omega (arith, is))
 zero_is (damaged_trial trial detail) is = absurd (omega (arith, is))
@@ -133,6 +134,7 @@ five_is (folder_failed path) is = absurd (omega (arith, is))
 five_is store_failed is = absurd (omega (arith, is))
 five_is out_of_memory is = absurd (omega (arith, is))
 five_is out_of_steps is = absurd (omega (arith, is))
+five_is not_reached is = absurd (omega (arith, is))
 five_is (collision digest kept given) is = absurd (omega (arith, is))
 five_is store_full is = absurd (omega (arith, is))
 five_is (damaged_trial trial detail) is = absurd (omega (arith, is))
@@ -148,6 +150,7 @@ six_is (folder_failed path) is = (path, refl)
 six_is store_failed is = absurd (omega (arith, is))
 six_is out_of_memory is = absurd (omega (arith, is))
 six_is out_of_steps is = absurd (omega (arith, is))
+six_is not_reached is = absurd (omega (arith, is))
 six_is (collision digest kept given) is = absurd (omega (arith, is))
 six_is store_full is = absurd (omega (arith, is))
 six_is (damaged_trial trial detail) is = absurd (omega (arith, is))
@@ -166,6 +169,7 @@ fault_leaves (folder_failed path) = inr (refl, refl)
 fault_leaves store_failed = inr (refl, refl)
 fault_leaves out_of_memory = inr (refl, refl)
 fault_leaves out_of_steps = inl (refl, refl)
+fault_leaves not_reached = inl (refl, refl)
 fault_leaves (collision digest kept given) = inr (refl, refl)
 fault_leaves store_full = inr (refl, refl)
 fault_leaves (damaged_trial trial detail) = inl (refl, refl)
@@ -182,6 +186,7 @@ not_outlasting (folder_failed path) is = refl
 not_outlasting store_failed is = is
 not_outlasting out_of_memory is = refl
 not_outlasting out_of_steps is = refl
+not_outlasting not_reached is = refl
 not_outlasting (collision digest kept given) is = is
 not_outlasting store_full is = is
 not_outlasting (damaged_trial trial detail) is = refl
@@ -198,6 +203,7 @@ outlasting (folder_failed path) lasts store = inl refl
 outlasting store_failed lasts store = absurd (false≢true (sym store))
 outlasting out_of_memory lasts store = inr refl
 outlasting out_of_steps lasts store = absurd (false≢true lasts)
+outlasting not_reached lasts store = absurd (false≢true lasts)
 outlasting (collision digest kept given) lasts store = absurd (false≢true (sym store))
 outlasting store_full lasts store = absurd (false≢true (sym store))
 outlasting (damaged_trial trial detail) lasts store = absurd (false≢true lasts)
@@ -289,6 +295,7 @@ no_bytes (folder_failed path) is = absurd (false≢true (sym is))
 no_bytes store_failed is = absurd (false≢true (sym is))
 no_bytes out_of_memory is = absurd (false≢true (sym is))
 no_bytes out_of_steps is = absurd (false≢true (sym is))
+no_bytes not_reached is = absurd (false≢true (sym is))
 no_bytes (collision digest kept given) is = absurd (false≢true (sym is))
 no_bytes store_full is = absurd (false≢true (sym is))
 no_bytes (damaged_trial trial detail) is = absurd (false≢true (sym is))
@@ -511,6 +518,7 @@ not_console NothingThere is = cc
 not_console (FolderFailed path) is = cc
 not_console StoreFailed is = cc
 not_console OutOfSteps is = cc
+not_console NotReached is = cc
 not_console (Collision digest kept given) is = cc
 not_console StoreFull is = cc
 not_console (DamagedTrial trial detail) is = cc

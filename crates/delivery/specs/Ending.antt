@@ -3,7 +3,7 @@ use Rattle.std.specs.Prelude.{ℕ, Bool, true, false, List, [], ◌∷◌, ◌++
 use Rattle.std.specs.Fmt.{decimal}
 use Rattle.hex.specs.Hex.{encode_lower}
 use Rattle.delivery.specs.declared.ending.Ending.{Ending as Planned}
-use Rattle.delivery.specs.declared.ending.Ending.TheVariants.{Done, Uncaught, Usage, Refused, NothingThere, FolderFailed, StoreFailed, OutOfSteps, Collision, StoreFull, DamagedTrial, OutOfMemory}
+use Rattle.delivery.specs.declared.ending.Ending.TheVariants.{Done, Uncaught, Usage, Refused, NothingThere, FolderFailed, StoreFailed, OutOfSteps, NotReached, Collision, StoreFull, DamagedTrial, OutOfMemory}
 
 -- how a command ends
 pub data Ending : Type 0 where
@@ -17,6 +17,8 @@ pub data Ending : Type 0 where
   store_failed : Ending
   out_of_memory : Ending
   out_of_steps : Ending
+  -- the run of a slice does not reach the evaluation
+  not_reached : Ending
   -- other bytes stand under a digest: it, their number, and how many were given
   collision : (digest : List ℕ) → (kept : ℕ) → (given : ℕ) → Ending
   store_full : Ending
@@ -35,6 +37,7 @@ status_of (folder_failed path) = 6
 status_of store_failed = 7
 status_of out_of_memory = 8
 status_of out_of_steps = 9
+status_of not_reached = 12
 status_of (collision digest kept given) = 10
 status_of store_full = 13
 status_of (damaged_trial trial detail) = 11
@@ -63,6 +66,7 @@ closing_line (folder_failed path) = codes "now: folder failed at " ++ path ++ 10
 closing_line store_failed = codes "now: store failed" ++ 10 ∷ []
 closing_line out_of_memory = codes "now: out of memory" ++ 10 ∷ []
 closing_line out_of_steps = codes "now: out of steps" ++ 10 ∷ []
+closing_line not_reached = codes "now: not reached" ++ 10 ∷ []
 closing_line (collision digest kept given) = codes "now: collision " ++ encode_lower digest ++ codes " " ++ decimal kept ++ codes " " ++ decimal given ++ 10 ∷ []
 closing_line store_full = codes "now: store full" ++ 10 ∷ []
 closing_line (damaged_trial trial detail) = codes "now: damaged trial " ++ decimal trial ++ codes ": " ++ detail ++ 10 ∷ []
@@ -77,6 +81,7 @@ ending_of NothingThere = nothing_there
 ending_of (FolderFailed path) = folder_failed path.now
 ending_of StoreFailed = store_failed
 ending_of OutOfSteps = out_of_steps
+ending_of NotReached = not_reached
 ending_of (Collision digest kept given) = collision digest.bytes kept given
 ending_of StoreFull = store_full
 ending_of (DamagedTrial trial detail) = damaged_trial trial detail.now

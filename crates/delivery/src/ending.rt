@@ -37,6 +37,8 @@ pub enum Ending<'t> {
     StoreFailed,
     /// The steps of the run did not suffice.
     OutOfSteps,
+    /// The run of a slice does not reach what is asked for.
+    NotReached,
     /// Other bytes stand in the store under the digest of a content, and the run is not kept.
     Collision {
         /// The digest.
@@ -74,6 +76,7 @@ pub(crate) fn of_store(ending: Ending<'_>) -> bool
         Ending::NothingThere => false,
         Ending::FolderFailed(_) => false,
         Ending::OutOfSteps => false,
+        Ending::NotReached => false,
         Ending::DamagedTrial { .. } => false,
         Ending::OutOfMemory => false,
     }

@@ -36,6 +36,7 @@ pub(crate) fn close<C: Console>(alloc: Global, console: &mut C, ending: Ending<'
         Ending::StoreFailed => write_line(alloc, console, b"now: store failed\n", 7),
         Ending::OutOfMemory => write_line(alloc, console, OUT_OF_MEMORY, 8),
         Ending::OutOfSteps => write_line(alloc, console, b"now: out of steps\n", 9),
+        Ending::NotReached => write_line(alloc, console, b"now: not reached\n", 12),
         Ending::Collision {
             digest,
             kept,

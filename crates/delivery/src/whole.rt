@@ -127,6 +127,7 @@ fn outlasts(ending: Ending<'_>) -> bool
         Ending::Refused { .. } => false,
         Ending::NothingThere => false,
         Ending::OutOfSteps => false,
+        Ending::NotReached => false,
         Ending::DamagedTrial { .. } => false,
     }
 }

@@ -9,8 +9,8 @@ use Rattle.prov_base.specs.Path.{is_path}
 use Rattle.now_words.specs.Command.{Command, run_bare, run_kept, reads, command_of}
 use Rattle.now_words.specs.declared.command.Evaluation.{Evaluation}
 use Rattle.now_words.specs.declared.command.Query.{Query}
-use Rattle.now_words.specs.declared.command.Query.TheVariants.{List as list_query, Show, Slice}
-use Rattle.delivery.specs.Ending.{Ending, done, uncaught, usage, refused, nothing_there, console_failed, folder_failed, store_failed, out_of_memory, out_of_steps, collision, store_full, damaged_trial, status_of, closing_line, tells_of_store}
+use Rattle.now_words.specs.declared.command.Query.TheVariants.{List as list_query, History, Show, Slice, Value, Replay}
+use Rattle.delivery.specs.Ending.{Ending, done, uncaught, usage, refused, nothing_there, console_failed, folder_failed, store_failed, out_of_memory, out_of_steps, not_reached, collision, store_full, damaged_trial, status_of, closing_line, tells_of_store}
 use Rattle.delivery.specs.Ends.{Ends, as_planned, by_console as by_planned_console, by_folder as by_planned_folder, no_memory as lacked_memory, GetsPrefixes}
 use Rattle.delivery.specs.PutsAll.{OutFile}
 use Rattle.delivery.specs.Stands.{HasAll, WentWell, DidAsPlanned}
@@ -27,9 +27,14 @@ use Rattle.trial_keeping.specs.declared.fault.TrialFault.{TrialFault}
 use Rattle.trial_keeping.specs.declared.fault.TrialFault.TheVariants.{NoTrial, Damaged, Keeper, Collision, Full, Memory}
 use Rattle.trial_loading.specs.Loading.{IsLoaded}
 use Rattle.trial_loading.specs.declared.trial.Trial.{Trial}
+use Rattle.trial_slice.specs.Questions.{HasAnswer}
 use Rattle.trial_slice.specs.Slices.{HasSlice}
+use Rattle.trial_replay.specs.Replays.{IsReplayAt}
+use Rattle.trial_replay.specs.declared.replaying.Replayed.{Replayed}
+use Rattle.trial_replay.specs.declared.replaying.Replayed.TheVariants.{Lines, NotReached}
 use Rattle.trial_tables.specs.Written.{put, clash}
-use Rattle.now_top.specs.Completes.{IsTold, Completes, as_meant, by_console, by_folder, by_store, by_collision, by_full, no_memory, DoesWhole, DoesAsMeant, WritesPrefixes, WritesSlice, KeepsOne, RepliesBy, leaves_tables}
+use Rattle.trial_value.specs.Values.{IsValueAt}
+use Rattle.now_top.specs.Completes.{IsTold, Completes, as_meant, by_console, by_folder, by_store, by_collision, by_full, no_memory, DoesWhole, DoesAsMeant, WritesPrefixes, WritesSlice, WritesAnswer, KeepsOne, RepliesBy, leaves_tables}
 use Rattle.capture.specs.declared.ended.RunEnd.{RunEnd}
 use Rattle.capture.specs.declared.ended.RunEnd.TheVariants.{Finished, Raised, Spent}
 use Rattle.now_top.specs.Planned.{ending_told}
@@ -38,7 +43,7 @@ use Rattle.now_top.specs.Unkept.{with_keeping}
 use Rattle.now_top.specs.Means.{MeansCommand, file_of}
 use Rattle.now_top.specs.Replies.{Comes, meant, unread, store_unread, untold, no_memory as lacks_memory, Prepares, Replies}
 use Rattle.now_top.specs.Seen.{Seen, told_by}
-use Rattle.now_top.specs.Reply.{RepliesOf, well_kept, not_there, amiss, Slices, sliced, unevaluated, Reply}
+use Rattle.now_top.specs.Reply.{RepliesOf, well_kept, not_there, amiss, Slices, sliced, unevaluated, Answered, answered, unanswered, telling, ValuesOf, replaying, ReplaysOf, Reply}
 use Rattle.now_top.specs.World.{World, Plan, closing}
 
 -- what is told goes through what is told between
@@ -115,6 +120,7 @@ no_store (folder_failed path) seven ten full = refl
 no_store store_failed seven ten full = absurd (seven refl)
 no_store out_of_memory seven ten full = refl
 no_store out_of_steps seven ten full = refl
+no_store not_reached seven ten full = refl
 no_store (collision digest kept given) seven ten full = absurd (ten refl)
 no_store store_full seven ten full = absurd (full refl)
 no_store (damaged_trial trial detail) seven ten full = refl
@@ -130,6 +136,7 @@ pub none_at : (ending : Ending) → leaves_tables (status_of ending) ≡ true �
 none_at done is = absurd (false≢true is)
 none_at (uncaught class line text) is = absurd (false≢true is)
 none_at out_of_steps is = absurd (false≢true is)
+none_at not_reached is = absurd (false≢true is)
 none_at usage is = refl
 none_at (refused file line column) is = refl
 none_at nothing_there is = refl
@@ -146,6 +153,7 @@ pub run_at : (ending : Ending) → (status_of ending ≡ 0) ⊎ ((status_of endi
 run_at done is = refl
 run_at (uncaught class line text) is = refl
 run_at out_of_steps is = refl
+run_at not_reached is = absurd (none_of 12 (λ e. omega (arith, e)) (λ e. omega (arith, e)) (λ e. omega (arith, e)) is)
 run_at usage is = absurd (none_of 2 (λ e. omega (arith, e)) (λ e. omega (arith, e)) (λ e. omega (arith, e)) is)
 run_at (refused file line column) is = absurd (none_of 3 (λ e. omega (arith, e)) (λ e. omega (arith, e)) (λ e. omega (arith, e)) is)
 run_at nothing_there is = absurd (none_of 4 (λ e. omega (arith, e)) (λ e. omega (arith, e)) (λ e. omega (arith, e)) is)
@@ -194,14 +202,26 @@ answer_is_fine answers fine tables number plan (well_kept trial loaded _ is) = f
 answer_is_fine answers fine tables number plan (not_there none) = refl
 answer_is_fine answers fine tables number plan (amiss damage is) = refl
 
+question_is_fine : {T : Type 0} (tells : T → Plan) → ((it : T) → tells_of_store (tells it).ending ≡ false) → (answers : Trial → T → Type 0) (lacks : Trial → Type 0) (trial : Trial) (plan : Plan)
+    → Answered tells answers lacks trial plan → tells_of_store plan.ending ≡ false
+question_is_fine tells fine answers lacks trial plan (answered it is) = fine it
+question_is_fine tells fine answers lacks trial plan (unanswered so) = refl
+
+replay_is_fine : (told : Replayed) → tells_of_store (replaying told).ending ≡ false
+replay_is_fine (Lines text) = refl
+replay_is_fine NotReached = refl
+
 slice_is_fine : (of : Evaluation) (trial : Trial) (plan : Plan) → Slices of.at of.k trial plan → tells_of_store plan.ending ≡ false
 slice_is_fine of trial plan (sliced keep text is) = refl
 slice_is_fine of trial plan (unevaluated lacks) = refl
 
 reply_is_fine : (query : Query) (tables : TablesView) (plan : Plan) → Reply query tables plan → tells_of_store plan.ending ≡ false
 reply_is_fine list_query tables plan is = ap (λ (p : Plan). tells_of_store p.ending) is
+reply_is_fine History tables plan is = ap (λ (p : Plan). tells_of_store p.ending) is
 reply_is_fine (Show number) tables plan is = answer_is_fine _ (λ trial shown so. ap (λ (p : Plan). tells_of_store p.ending) so) tables number plan is
 reply_is_fine (Slice of) tables plan is = answer_is_fine (Slices of.at of.k) (slice_is_fine of) tables of.trial plan is
+reply_is_fine (Value of) tables plan is = answer_is_fine (ValuesOf of) (question_is_fine telling (λ text. refl) _ _) tables of.trial plan is
+reply_is_fine (Replay of) tables plan is = answer_is_fine (ReplaysOf of) (question_is_fine replaying replay_is_fine _ _) tables of.trial plan is
 
 -- a slice with which the command is done is one by the tables
 slice_done : (of : Evaluation) (tables : TablesView) (trial : Trial) (plan : Plan) → IsLoaded tables of.trial trial → Slices of.at of.k trial plan → plan.ending ≡ done → HasSlice tables of.trial of.at of.k plan.text
@@ -212,6 +232,22 @@ reply_slices : (of : Evaluation) (tables : TablesView) (plan : Plan) → Replies
 reply_slices of tables plan (well_kept trial loaded _ is) done_so = slice_done of tables trial plan loaded is done_so
 reply_slices of tables plan (not_there none) done_so = absurd (cc)
 reply_slices of tables plan (amiss damage is) done_so = absurd (cc)
+
+-- a text with which the command is done answers the question, by the tables
+pub reply_answers : (comes : Trial → Plan → Type 0) (answers : Trial → List ℕ → Type 0) → ((trial : Trial) (plan : Plan) → comes trial plan → plan.ending ≡ done → answers trial plan.text)
+    → (tables : TablesView) (number : ℕ) (plan : Plan) → RepliesOf comes tables number plan → plan.ending ≡ done → HasAnswer answers tables number plan.text
+reply_answers comes answers of tables number plan (well_kept trial loaded _ is) done_so = record { trial = trial; loaded = loaded; answer = of trial plan is done_so }
+reply_answers comes answers of tables number plan (not_there none) done_so = absurd (cc)
+reply_answers comes answers of tables number plan (amiss damage is) done_so = absurd (cc)
+
+pub value_done : (of : Evaluation) (trial : Trial) (plan : Plan) → ValuesOf of trial plan → plan.ending ≡ done → IsValueAt of.at of.k trial plan.text
+value_done of trial plan (answered text is) done_so = is
+value_done of trial plan (unanswered so) done_so = absurd (cc)
+
+pub replay_done : (of : Evaluation) (trial : Trial) (plan : Plan) → ReplaysOf of trial plan → plan.ending ≡ done → IsReplayAt of.at of.k trial (Lines plan.text)
+replay_done of trial plan (answered (Lines text) is) done_so = is
+replay_done of trial plan (answered NotReached is) done_so = absurd (cc)
+replay_done of trial plan (unanswered so) done_so = absurd (cc)
 
 module _ (words : List (List ℕ)) (before after : Seen) (was is : Stored) (status : ℕ) (so : Replies words before after was is status) where
   abbrev command : Option Command
@@ -450,7 +486,20 @@ module _ (words : List (List ℕ)) (before after : Seen) (was is : Stored) (stat
       (λ (was is : ConsoleView). (is.lines ≡ was.lines) × GetsPrefixes so.plan.text so.ran.faults.write after.faults.write status was.written is.written)
       (λ (was is : ConsoleView). GetsPrefixes so.plan.text before.faults.write after.faults.write status was.written is.written) from_before written_same got
 
-  -- ---- slices
+  -- ---- answers
+
+  -- a text alone was written
+  text_alone : so.plan.ending ≡ done → Tells so.ran.console after.console (λ (was is : ConsoleView). (is.lines ≡ was.lines) × (is.written ≡ was.written ++ so.plan.text ++ closing_line so.plan.ending))
+      → Tells before.console after.console (λ (was is : ConsoleView). is.written ≡ was.written ++ so.plan.text)
+  text_alone is got = tells_through before.console so.ran.console after.console (λ (was now : ConsoleView). now.written ≡ was.written)
+      (λ (was now : ConsoleView). (now.lines ≡ was.lines) × (now.written ≡ was.written ++ so.plan.text ++ closing_line so.plan.ending))
+      (λ (was now : ConsoleView). now.written ≡ was.written ++ so.plan.text)
+      (λ x y z same all. only_text x.written y.written z.written so.plan.text so.plan.ending is same all.1) written_same got
+
+  pub answers_so : (answers : Trial → List ℕ → Type 0) (number : ℕ) (told : TablesView) → HasAnswer answers told number so.plan.text → so.plan.ending ≡ done
+      → Tells so.ran.console after.console (λ (was is : ConsoleView). (is.lines ≡ was.lines) × (is.written ≡ was.written ++ so.plan.text ++ closing_line so.plan.ending))
+      → WritesAnswer answers number told before after
+  answers_so answers number told has is got = record { text = so.plan.text; answer = has; console = text_alone is got }
 
   pub slices_so : (of : Evaluation) (told : TablesView) → Reply (Slice of) told so.plan → so.plan.ending ≡ done
       → Tells so.ran.console after.console (λ (was is : ConsoleView). (is.lines ≡ was.lines) × (is.written ≡ was.written ++ so.plan.text ++ closing_line so.plan.ending))
@@ -458,10 +507,7 @@ module _ (words : List (List ℕ)) (before after : Seen) (was is : Stored) (stat
   slices_so of told reply is got = record {
     text = so.plan.text;
     is_slice = reply_slices of told so.plan reply is;
-    console = tells_through before.console so.ran.console after.console (λ (was now : ConsoleView). now.written ≡ was.written)
-        (λ (was now : ConsoleView). (now.lines ≡ was.lines) × (now.written ≡ was.written ++ so.plan.text ++ closing_line so.plan.ending))
-        (λ (was now : ConsoleView). now.written ≡ was.written ++ so.plan.text)
-        (λ x y z same all. only_text x.written y.written z.written so.plan.text so.plan.ending is same all.1) written_same got;
+    console = text_alone is got;
   }
 
   -- ---- the store

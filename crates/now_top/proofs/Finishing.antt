@@ -2,7 +2,7 @@
 use Rattle.std.proofs.Common.{◌≡◌, refl, sym, ap, subst, ◌∙◌, ℕ, List, true, ◌⊎◌, inl, inr, ⊎_elim, Option, Some, None, Ok, Err}
 use Rattle.std.proofs.lemmas.Bool.{false≢true}
 use Rattle.std.proofs.lemmas.Option.{same_Some}
-use Rattle.delivery.specs.Ending.{Ending, done, uncaught, usage, refused, nothing_there, console_failed, folder_failed, store_failed, out_of_memory, out_of_steps, collision, store_full, damaged_trial, status_of}
+use Rattle.delivery.specs.Ending.{Ending, done, uncaught, usage, refused, nothing_there, console_failed, folder_failed, store_failed, out_of_memory, out_of_steps, not_reached, collision, store_full, damaged_trial, status_of}
 use Rattle.delivery.specs.Ends.{Ends, as_planned, by_console, by_folder, no_memory}
 use Rattle.now_words.specs.Command.{Command, run_kept, command_of}
 use Rattle.prov_base.specs.declared.place.Pos.{Pos}
@@ -37,6 +37,7 @@ run_statuses store_failed is = absurd (false≢true is)
 run_statuses out_of_memory is = absurd (false≢true is)
 run_statuses (collision digest kept given) is = absurd (false≢true is)
 run_statuses store_full is = absurd (false≢true is)
+run_statuses not_reached is = absurd (false≢true is)
 run_statuses (damaged_trial trial detail) is = absurd (false≢true is)
 
 module _ (words : List (List ℕ)) (before after : Seen) (was is : Stored) (status : ℕ) (so : Replies words before after was is status)

@@ -8,3 +8,4 @@ pub mod Meanings
 pub mod OneMeaning
 pub mod Answering
 pub mod Promising
+mod Questioning

@@ -11,7 +11,7 @@ use Rattle.capture.specs.declared.answer.Asked.{Asked}
 use Rattle.capture.specs.declared.ended.Ended.{Ended as EndedRun}
 use Rattle.capture.specs.declared.ended.RunEnd.{RunEnd as EndTold}
 use Rattle.capture.specs.declared.ended.RunEnd.TheVariants.{Finished, Raised, Spent}
-use Rattle.delivery.specs.Ending.{Ending, uncaught, refused, out_of_memory, done, usage, nothing_there, console_failed, folder_failed, out_of_steps, store_failed, collision, store_full, damaged_trial}
+use Rattle.delivery.specs.Ending.{Ending, uncaught, refused, out_of_memory, done, usage, nothing_there, console_failed, folder_failed, out_of_steps, not_reached, store_failed, collision, store_full, damaged_trial}
 use Rattle.prov_base.specs.declared.refusal.Memory.{Memory}
 use Rattle.prov_outside.specs.declared.folder.Found.{Found as FoundThere}
 use Rattle.op_state.specs.Uncaught.{class_raised, text_raised}
@@ -139,6 +139,7 @@ not_run_so file text steps arguments read usage so = absurd so
 not_run_so file text steps arguments read nothing_there so = absurd so
 not_run_so file text steps arguments read console_failed so = absurd so
 not_run_so file text steps arguments read out_of_steps so = absurd so
+not_run_so file text steps arguments read not_reached so = absurd so
 not_run_so file text steps arguments read store_failed so = absurd so
 not_run_so file text steps arguments read (collision digest kept given) so = absurd so
 not_run_so file text steps arguments read store_full so = absurd so
@@ -164,6 +165,7 @@ no_run_refused file text usage so = absurd so
 no_run_refused file text nothing_there so = absurd so
 no_run_refused file text console_failed so = absurd so
 no_run_refused file text out_of_steps so = absurd so
+no_run_refused file text not_reached so = absurd so
 no_run_refused file text store_failed so = absurd so
 no_run_refused file text (collision digest kept given) so = absurd so
 no_run_refused file text store_full so = absurd so

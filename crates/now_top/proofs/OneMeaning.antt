@@ -2,8 +2,9 @@
 use Rattle.std.proofs.Common.{◌≡◌, refl, sym, ap, subst, ◌∙◌, ℕ, Bool, true, false, List, ◌++◌, inl, inr, Option, Some, None}
 use Rattle.std.proofs.lemmas.Option.{same_Some}
 use Rattle.now_words.specs.Command.{Command, run_bare, run_kept, reads}
+use Rattle.now_words.specs.declared.command.Evaluation.{Evaluation}
 use Rattle.now_words.specs.declared.command.Query.{Query}
-use Rattle.now_words.specs.declared.command.Query.TheVariants.{List as list_query, Show, Slice}
+use Rattle.now_words.specs.declared.command.Query.TheVariants.{List as list_query, History, Show, Slice, Value, Replay}
 use Rattle.delivery.specs.Ending.{Ending, refused, damaged_trial}
 use Rattle.keeper.specs.Tables.{TablesView}
 use Rattle.keeper.specs.declared.records.Head.{Head}
@@ -31,7 +32,7 @@ use Rattle.now_top.specs.Means.{MeansCommand}
 use Rattle.py_model.specs.Occurrences.{up_to_evaluation}
 use Rattle.row_moments.specs.Moments.{moments_in}
 use Rattle.trial_slice.specs.Sliced.{IsSliceOf}
-use Rattle.now_top.specs.Reply.{telling, RepliesOf, well_kept, not_there, amiss, ShowsLines, Slices, sliced, unevaluated, Reply}
+use Rattle.now_top.specs.Reply.{telling, RepliesOf, well_kept, not_there, amiss, ShowsLines, Slices, sliced, unevaluated, Answered, answered, unanswered, ValuesOf, ReplaysOf, Reply}
 
 false_is : false ≡ true → ⊥
 false_is is = cc
@@ -98,12 +99,32 @@ the_same_back trial other same = record { number = sym same.number; head = sym s
 no_head : (found : Option Head) (head : Head) → found ≡ None → found ≡ Some head → ⊥
 no_head found head none some = cc
 
+-- trials that are the same are answered the same
+abbrev pub Alike : (Trial → Plan → Type 0) → Type 0
+Alike answers = (trial other : Trial) (one two : Plan) → AreSame trial other → answers trial one → answers other two → one ≡ two
+
+module _ (one_slice : (trial other : Trial) (at : Pos) (k : ℕ) (one two : ℕ → Bool) (text more : List ℕ) → AreSame trial other → IsSliceOf trial at k one text → IsSliceOf other at k two more → text ≡ more)
+    (not_lacking : (trial other : Trial) (at : Pos) (k : ℕ) (keep : ℕ → Bool) (text : List ℕ) → AreSame trial other → IsSliceOf trial at k keep text → up_to_evaluation at k (moments_in other.rows) ≡ None → ⊥) where
+  pub slices_alike : (at : Pos) (k : ℕ) → Alike (Slices at k)
+  slices_alike at k trial other one two same (sliced keep text is) (sliced kept more so) = ap telling (one_slice trial other at k keep kept text more same is so)
+  slices_alike at k trial other one two same (sliced keep text is) (unevaluated lacks) = absurd (not_lacking trial other at k keep text same is lacks)
+  slices_alike at k trial other one two same (unevaluated lacks) (sliced keep text is) =
+      absurd (not_lacking other trial at k keep text (the_same_back trial other same) is lacks)
+  slices_alike at k trial other one two same (unevaluated lacks) (unevaluated also) = refl
+
+-- a question with one answer, which is there or not
+pub answers_alike : {T : Type 0} (tells : T → Plan) (answers : Trial → T → Type 0) (lacks : Trial → Type 0) → ((trial other : Trial) (it more : T) → AreSame trial other → answers trial it → answers other more → it ≡ more)
+    → ((trial other : Trial) (it : T) → AreSame trial other → answers trial it → lacks other → ⊥) → Alike (Answered tells answers lacks)
+answers_alike tells answers lacks same_answer not_both trial other one two same (answered it is) (answered more so) = ap tells (same_answer trial other it more same is so)
+answers_alike tells answers lacks same_answer not_both trial other one two same (answered it is) (unanswered none) = absurd (not_both trial other it same is none)
+answers_alike tells answers lacks same_answer not_both trial other one two same (unanswered none) (answered it is) = absurd (not_both other trial it (the_same_back trial other same) is none)
+answers_alike tells answers lacks same_answer not_both trial other one two same (unanswered none) (unanswered also) = refl
+
 module _ (one_trial : (tables : TablesView) (number : ℕ) (trial other : Trial) → IsLoaded tables number trial → IsLoaded tables number other → AreSame trial other)
     (one_damage : (tables : TablesView) (number : ℕ) (damage other : Damage) → IsDamaged tables number damage → IsDamaged tables number other → damage ≡ other)
     (never_both : (tables : TablesView) (number : ℕ) (trial : Trial) (damage : Damage) → IsLoaded tables number trial → IsDamaged tables number damage → ⊥) where
   -- a question about a trial has one answer, where each trial has one to it
-  one_answer : (answers : Trial → Plan → Type 0) → ((trial other : Trial) (one two : Plan) → AreSame trial other → answers trial one → answers other two → one ≡ two)
-      → (tables : TablesView) (number : ℕ) (one other : Plan) → RepliesOf answers tables number one → RepliesOf answers tables number other → one ≡ other
+  one_answer : (answers : Trial → Plan → Type 0) → Alike answers → (tables : TablesView) (number : ℕ) (one other : Plan) → RepliesOf answers tables number one → RepliesOf answers tables number other → one ≡ other
   one_answer answers alike tables number one other (well_kept trial loaded _ is) (well_kept to also _ so) = alike trial to one other (one_trial tables number trial to loaded also) is so
   one_answer answers alike tables number one other (well_kept trial loaded _ is) (not_there none) = absurd (no_head _ trial.head none loaded.head_is)
   one_answer answers alike tables number one other (well_kept trial loaded _ so) (amiss damage is) = absurd (never_both tables number trial damage loaded is)
@@ -114,20 +135,15 @@ module _ (one_trial : (tables : TablesView) (number : ℕ) (trial other : Trial)
   one_answer answers alike tables number one other (amiss damage is) (not_there none) = absurd (no_head _ is.head none is.head_is)
   one_answer answers alike tables number one other (amiss damage is) (amiss to so) = ap (λ (d : Damage). closing (damaged_trial number (detail d))) (one_damage tables number damage to is so)
 
-  module _ (one_slice : (trial other : Trial) (at : Pos) (k : ℕ) (one two : ℕ → Bool) (text more : List ℕ) → AreSame trial other → IsSliceOf trial at k one text → IsSliceOf other at k two more → text ≡ more)
-      (not_lacking : (trial other : Trial) (at : Pos) (k : ℕ) (keep : ℕ → Bool) (text : List ℕ) → AreSame trial other → IsSliceOf trial at k keep text → up_to_evaluation at k (moments_in other.rows) ≡ None → ⊥) where
-    slices_alike : (at : Pos) (k : ℕ) (trial other : Trial) (one two : Plan) → AreSame trial other → Slices at k trial one → Slices at k other two → one ≡ two
-    slices_alike at k trial other one two same (sliced keep text is) (sliced kept more so) = ap telling (one_slice trial other at k keep kept text more same is so)
-    slices_alike at k trial other one two same (sliced keep text is) (unevaluated lacks) = absurd (not_lacking trial other at k keep text same is lacks)
-    slices_alike at k trial other one two same (unevaluated lacks) (sliced keep text is) =
-        absurd (not_lacking other trial at k keep text (the_same_back trial other same) is lacks)
-    slices_alike at k trial other one two same (unevaluated lacks) (unevaluated also) = refl
-
-    -- a question has one reply by the tables
-    pub one_reply : (query : Query) (tables : TablesView) (one other : Plan) → Reply query tables one → Reply query tables other → one ≡ other
-    one_reply list_query tables one other a b = a ∙ sym b
-    one_reply (Show number) tables one other a b = one_answer ShowsLines (λ trial to first second same is so. is ∙ (ap telling (same_lines trial to same) ∙ sym so)) tables number one other a b
-    one_reply (Slice of) tables one other a b = one_answer (Slices of.at of.k) (slices_alike of.at of.k) tables of.trial one other a b
+  -- a question has one reply by the tables
+  pub one_reply : ((of : Evaluation) → Alike (Slices of.at of.k)) → ((of : Evaluation) → Alike (ValuesOf of)) → ((of : Evaluation) → Alike (ReplaysOf of))
+      → (query : Query) (tables : TablesView) (one other : Plan) → Reply query tables one → Reply query tables other → one ≡ other
+  one_reply slices values replays list_query tables one other a b = a ∙ sym b
+  one_reply slices values replays History tables one other a b = a ∙ sym b
+  one_reply slices values replays (Show number) tables one other a b = one_answer ShowsLines (λ trial to first second same is so. is ∙ (ap telling (same_lines trial to same) ∙ sym so)) tables number one other a b
+  one_reply slices values replays (Slice of) tables one other a b = one_answer (Slices of.at of.k) (slices of) tables of.trial one other a b
+  one_reply slices values replays (Value of) tables one other a b = one_answer (ValuesOf of) (values of) tables of.trial one other a b
+  one_reply slices values replays (Replay of) tables one other a b = one_answer (ReplaysOf of) (replays of) tables of.trial one other a b
 
 pub one_of : ((file : List ℕ) (steps : ℕ) (arguments : List (List ℕ)) (world : World) (one other : Plan) → running.MeansRun file steps arguments world one → running.MeansRun file steps arguments world other → one ≡ other)
     → ((query : Query) (tables : TablesView) (one other : Plan) → Reply query tables one → Reply query tables other → one ≡ other)

@@ -5,7 +5,7 @@ use Rattle.answer_source.proofs.Fitting.{own_fits}
 use Rattle.answer_source.specs.Live.{capture_of}
 use Rattle.now_words.specs.Command.{Command, run_bare, run_kept, reads as reads_command}
 use Rattle.now_words.specs.declared.command.Query.{Query}
-use Rattle.delivery.specs.Ending.{Ending, done, uncaught, usage, refused, nothing_there, console_failed, folder_failed, store_failed, out_of_memory, out_of_steps, collision, store_full, damaged_trial}
+use Rattle.delivery.specs.Ending.{Ending, done, uncaught, usage, refused, nothing_there, console_failed, folder_failed, store_failed, out_of_memory, out_of_steps, not_reached, collision, store_full, damaged_trial}
 use Rattle.prov_outside.specs.Folder.{Files, largest_file}
 use Rattle.prov_outside.specs.Tells.{Tells}
 use Rattle.run_engine.specs.Bare.{nothing_kept}
@@ -84,6 +84,7 @@ module _ (one : Command) (tables : Option TablesView) (before read : Seen) (read
   ends_so files usage b = absurd b
   ends_so files console_failed b = absurd b
   ends_so files out_of_steps b = absurd b
+  ends_so files not_reached b = absurd b
   ends_so files store_failed b = absurd b
   ends_so files (collision digest kept given) b = absurd b
   ends_so files store_full b = absurd b
@@ -100,6 +101,7 @@ module _ (one : Command) (tables : Option TablesView) (before read : Seen) (read
   no_run_in files usage b = absurd b
   no_run_in files console_failed b = absurd b
   no_run_in files out_of_steps b = absurd b
+  no_run_in files not_reached b = absurd b
   no_run_in files store_failed b = absurd b
   no_run_in files (collision digest kept given) b = absurd b
   no_run_in files store_full b = absurd b

@@ -43,8 +43,12 @@ IsPlanOfTrial (Err Memory) plan = plan ≡ closing out_of_memory
 IsPlanOfTrial (Err (Collision digest kept given)) plan = plan ≡ closing store_failed
 IsPlanOfTrial (Err Full) plan = plan ≡ closing store_failed
 
--- the answer to a question about an evaluation, or why there is none
-abbrev pub IsPlanOfQuestion : Result (List ℕ) EvaluationFault → Plan → Type 0
-IsPlanOfQuestion (Ok text) plan = plan ≡ telling text
-IsPlanOfQuestion (Err NoEvaluation) plan = plan ≡ closing nothing_there
-IsPlanOfQuestion (Err (Trial fault)) plan = IsPlanOfTrial (Err fault) plan
+-- why a question about an evaluation has no answer
+abbrev pub IsPlanOfFault : EvaluationFault → Plan → Type 0
+IsPlanOfFault NoEvaluation plan = plan ≡ closing nothing_there
+IsPlanOfFault (Trial fault) plan = IsPlanOfTrial (Err fault) plan
+
+-- the answer to a question about an evaluation, as it is told, or why there is none
+abbrev pub IsPlanOfQuestion : {T : Type 0} → (T → Plan) → Result T EvaluationFault → Plan → Type 0
+IsPlanOfQuestion tells (Ok it) plan = plan ≡ tells it
+IsPlanOfQuestion tells (Err fault) plan = IsPlanOfFault fault plan

@@ -13,6 +13,8 @@ use Rattle.prov_outside.specs.Tells.{Tells}
 use Rattle.py_model.specs.Capture.{Telling}
 use Rattle.trial_keeping.specs.Keeping.{HasRoom, full_store}
 use Rattle.trial_keeping.specs.Trial.{Run, with_trial_of}
+use Rattle.trial_loading.specs.declared.trial.Trial.{Trial}
+use Rattle.trial_slice.specs.Questions.{HasAnswer}
 use Rattle.trial_slice.specs.Slices.{HasSlice}
 use Rattle.trial_tables.specs.Written.{put, clash}
 use Rattle.now_words.specs.declared.command.Evaluation.{Evaluation}
@@ -73,6 +75,12 @@ WritesPrefixes text status before after = Tells before.console after.console (λ
 pub record WritesSlice (of : Evaluation) (tables : TablesView) (before after : Seen) : Type 0 where
   pub text : List ℕ
   pub is_slice : HasSlice tables of.trial of.at of.k text
+  pub console : Tells before.console after.console (λ (was is : ConsoleView). is.written ≡ was.written ++ text)
+
+-- The console got the answer to a question about the trial with a number by the tables, and nothing else: the trial is well kept, and the text is its answer.
+pub record WritesAnswer (answers : Trial → List ℕ → Type 0) (number : ℕ) (tables : TablesView) (before after : Seen) : Type 0 where
+  pub text : List ℕ
+  pub answer : HasAnswer answers tables number text
   pub console : Tells before.console after.console (λ (was is : ConsoleView). is.written ≡ was.written ++ text)
 
 -- The store has the trial of the run more, as the next one, and nothing else is new in it.

@@ -1,6 +1,6 @@
 -- What the reading of FILE answers (this project's profile).
 use Rattle.std.specs.Prelude.{◌≡◌, ℕ, ◌<◌, List, length, Option, Some, None, Result, Ok, Err, IsTrue}
-use Rattle.delivery.specs.Ending.{Ending, done, uncaught, usage, refused, nothing_there, console_failed, folder_failed, store_failed, out_of_memory, out_of_steps, collision, store_full, damaged_trial, ending_of}
+use Rattle.delivery.specs.Ending.{Ending, done, uncaught, usage, refused, nothing_there, console_failed, folder_failed, store_failed, out_of_memory, out_of_steps, not_reached, collision, store_full, damaged_trial, ending_of}
 use Rattle.delivery.specs.declared.ending.Ending.{Ending as Planned}
 use Rattle.prov_base.specs.Path.{is_path}
 use Rattle.prov_base.specs.declared.place.Pos.{Pos}
@@ -25,6 +25,7 @@ IsReadAs file files was is (Err done) = ⊥
 IsReadAs file files was is (Err usage) = ⊥
 IsReadAs file files was is (Err console_failed) = ⊥
 IsReadAs file files was is (Err out_of_steps) = ⊥
+IsReadAs file files was is (Err not_reached) = ⊥
 IsReadAs file files was is (Err store_failed) = ⊥
 IsReadAs file files was is (Err (collision digest kept given)) = ⊥
 IsReadAs file files was is (Err store_full) = ⊥
@@ -51,6 +52,7 @@ IsRefusedAs file text usage = ⊥
 IsRefusedAs file text nothing_there = ⊥
 IsRefusedAs file text console_failed = ⊥
 IsRefusedAs file text out_of_steps = ⊥
+IsRefusedAs file text not_reached = ⊥
 IsRefusedAs file text store_failed = ⊥
 IsRefusedAs file text (collision digest kept given) = ⊥
 IsRefusedAs file text store_full = ⊥

@@ -1,9 +1,10 @@
 // What is read of the store of trials.
 ghost use Rattle.std.specs.Prelude.{◌≡◌, false};
-ghost use Rattle.now_words.specs.declared.command.Query.TheVariants.{List as list_query, Show, Slice};
-ghost use Rattle.now_top.specs.Asking.{AnswersQuery, IsPlanOfDamage, IsPlanOfQuestion, IsPlanOfTrial};
+ghost use Rattle.now_words.specs.declared.command.Query.TheVariants.{List as list_query, History, Show, Slice, Value, Replay};
+ghost use Rattle.now_top.specs.Asking.{AnswersQuery, IsPlanOfDamage, IsPlanOfFault, IsPlanOfQuestion, IsPlanOfTrial};
 ghost use Rattle.now_top.specs.Kept.{stored};
 ghost use Rattle.now_top.specs.Planned.{plan_of, plan_of_text};
+ghost use Rattle.now_top.specs.Reply.{replaying, telling};
 
 use crate::planned::{Planned, ending_without};
 use delivery::Ending;
@@ -11,11 +12,14 @@ use keeper::Keeper;
 use now_words::{Evaluation, Query};
 use prov_base::Bytes;
 use std::alloc::Global;
+use trial_history::history;
 use trial_keeping::TrialFault;
 use trial_list::list_text;
+use trial_replay::{Replayed, replayed_text};
 use trial_show::{detail_text, show_text};
 use trial_slice::{EvaluationFault, slice_text};
 use trial_tables::Damage;
+use trial_value::recorded_value_text;
 
 /// What a text that was read of the store comes to.
 fn planned_text<'w>(text: Result<Bytes, TrialFault>) -> Planned<'w>
@@ -52,14 +56,34 @@ fn planned_trial<'w>(alloc: Global, text: Result<Bytes, TrialFault>) -> Planned<
     }
 }
 
+/// What a question about an evaluation comes to that has no answer.
+fn planned_fault<'w>(alloc: Global, fault: EvaluationFault) -> Planned<'w>
+    ensures { IsPlanOfFault fault (plan_of result) }
+{
+    match fault {
+        EvaluationFault::NoEvaluation => Planned::Closes(Ending::NothingThere),
+        EvaluationFault::Trial(fault) => planned_trial(alloc, Err(fault)),
+    }
+}
+
 /// What the answer to a question about an evaluation comes to, or why there is none.
 fn planned_question<'w>(alloc: Global, text: Result<Bytes, EvaluationFault>) -> Planned<'w>
-    ensures { IsPlanOfQuestion text (plan_of result) }
+    ensures { IsPlanOfQuestion telling text (plan_of result) }
 {
     match text {
         Ok(text) => Planned::Text(text),
-        Err(EvaluationFault::NoEvaluation) => Planned::Closes(Ending::NothingThere),
-        Err(EvaluationFault::Trial(fault)) => planned_trial(alloc, Err(fault)),
+        Err(fault) => planned_fault(alloc, fault),
+    }
+}
+
+/// What a replay comes to, or why there is none.
+fn planned_replay<'w>(alloc: Global, told: Result<Replayed, EvaluationFault>) -> Planned<'w>
+    ensures { IsPlanOfQuestion replaying told (plan_of result) }
+{
+    match told {
+        Ok(Replayed::Lines(text)) => Planned::Text(text),
+        Ok(Replayed::NotReached) => Planned::Closes(Ending::NotReached),
+        Err(fault) => planned_fault(alloc, fault),
     }
 }
 
@@ -71,6 +95,16 @@ fn answer_list<'w, K: Keeper>(alloc: Global, keeper: &mut K) -> Planned<'w>
     ensures batch { K.is_open keeper.new ≡ false }
 {
     planned_text(list_text(alloc, keeper))
+}
+
+/// What `history` comes to.
+fn answer_history<'w, K: Keeper>(alloc: Global, keeper: &mut K) -> Planned<'w>
+    requires batch { K.is_open keeper.old ≡ false }
+    ensures answers { AnswersQuery History (stored K.told K.faults keeper.old) (stored K.told K.faults keeper.new)
+        (K.may_leave keeper.old) (K.may_leave keeper.new) (plan_of result) }
+    ensures batch { K.is_open keeper.new ≡ false }
+{
+    planned_text(history(alloc, keeper))
 }
 
 /// What `show` comes to, of the trial with a number.
@@ -93,6 +127,29 @@ fn answer_slice<'w, K: Keeper>(alloc: Global, keeper: &mut K, of: Evaluation) ->
     planned_question(alloc, slice_text(alloc, keeper, of.trial, of.at, of.k))
 }
 
+/// What `value` comes to, of an evaluation.
+fn answer_value<'w, K: Keeper>(alloc: Global, keeper: &mut K, of: Evaluation) -> Planned<'w>
+    requires batch { K.is_open keeper.old ≡ false }
+    ensures answers { AnswersQuery (Value of) (stored K.told K.faults keeper.old) (stored K.told K.faults keeper.new)
+        (K.may_leave keeper.old) (K.may_leave keeper.new) (plan_of result) }
+    ensures batch { K.is_open keeper.new ≡ false }
+{
+    planned_question(
+        alloc,
+        recorded_value_text(alloc, keeper, of.trial, of.at, of.k),
+    )
+}
+
+/// What `replay` comes to, of an evaluation.
+fn answer_replay<'w, K: Keeper>(alloc: Global, keeper: &mut K, of: Evaluation) -> Planned<'w>
+    requires batch { K.is_open keeper.old ≡ false }
+    ensures answers { AnswersQuery (Replay of) (stored K.told K.faults keeper.old) (stored K.told K.faults keeper.new)
+        (K.may_leave keeper.old) (K.may_leave keeper.new) (plan_of result) }
+    ensures batch { K.is_open keeper.new ≡ false }
+{
+    planned_replay(alloc, replayed_text(alloc, keeper, of.trial, of.at, of.k))
+}
+
 /// What a question to the store comes to. Nothing is changed there.
 pub fn answer_query<'w, K: Keeper>(alloc: Global, keeper: &mut K, query: Query) -> Planned<'w>
     requires batch { K.is_open keeper.old ≡ false }
@@ -102,7 +159,10 @@ pub fn answer_query<'w, K: Keeper>(alloc: Global, keeper: &mut K, query: Query) 
 {
     match query {
         Query::List => answer_list(alloc, keeper),
+        Query::History => answer_history(alloc, keeper),
         Query::Show(number) => answer_show(alloc, keeper, number),
         Query::Slice(of) => answer_slice(alloc, keeper, of),
+        Query::Value(of) => answer_value(alloc, keeper, of),
+        Query::Replay(of) => answer_replay(alloc, keeper, of),
     }
 }

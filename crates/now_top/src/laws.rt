@@ -2,7 +2,7 @@
 ghost use Rattle.std.specs.Prelude.{◌≡◌, ℕ, true, false, List, ◌⊎◌, Option, Some};
 ghost use Rattle.now_words.specs.declared.command.Evaluation.{Evaluation as OneEvaluation};
 ghost use Rattle.now_words.specs.declared.command.Query.{Query as Question};
-ghost use Rattle.now_words.specs.declared.command.Query.TheVariants.{Slice};
+ghost use Rattle.now_words.specs.declared.command.Query.TheVariants.{Slice, Value, Replay};
 ghost use Rattle.delivery.specs.Ending.{status_of};
 ghost use Rattle.keeper.specs.Keeping.{KeeperView};
 ghost use Rattle.keeper.specs.Tables.{TablesView};
@@ -10,7 +10,7 @@ ghost use Rattle.now_words.specs.Command.{Command, run_kept, reads, command_of};
 ghost use Rattle.prov_outside.specs.Count.{Rose};
 ghost use Rattle.prov_outside.specs.Tells.{Tells};
 ghost use Rattle.now_top.specs.Calls.{Calls, HasTrialsOf};
-ghost use Rattle.now_top.specs.Completes.{IsTold, Completes, DoesWhole, DoesAsMeant, WritesPrefixes, WritesSlice, KeepsOne, KeepsOrLeaves, FailedAtDelivery, ComesToARun, RepliesBy, leaves_tables};
+ghost use Rattle.now_top.specs.Completes.{IsTold, Completes, DoesWhole, DoesAsMeant, WritesPrefixes, WritesSlice, WritesAnswer, KeepsOne, KeepsOrLeaves, FailedAtDelivery, ComesToARun, RepliesBy, leaves_tables};
 ghost use Rattle.now_top.specs.Kept.{keeps, ends_a_run, reads_store, Stored, IsUntouched, tables_told};
 ghost use Rattle.now_top.specs.Means.{MeansCommand};
 ghost use Rattle.now_top.specs.Replies.{Replies};
@@ -19,13 +19,18 @@ ghost use Rattle.now_top.specs.Seen.{Seen};
 ghost use Rattle.now_top.specs.World.{World, Plan, StandsAt};
 ghost use Rattle.py_parser.specs.Reading.{HasScript};
 ghost use Rattle.py_tree.specs.Tree.{ScriptTree};
+ghost use Rattle.trial_replay.specs.Replays.{IsReplayAt};
+ghost use Rattle.trial_replay.specs.declared.replaying.Replayed.TheVariants.{Lines};
+ghost use Rattle.trial_value.specs.Values.{IsValueAt};
 
 use delivery::{
     done_is_whole, ends_in_one_way, no_count_rose, no_fault_answered, prefixes_are_written,
 };
 use py_parser::one_reading;
 use trial_loading::trials_are_loaded_one_way;
+use trial_replay::one_replay_of_a_trial;
 use trial_slice::one_slice_of_a_trial;
+use trial_value::one_value_of_a_trial;
 
 /// The law that a command has at most one meaning over a world and the tables of the store: one ending with one text and the same files, among them the place at which a script is
 /// refused, what a run comes to, and what is answered out of the store.
@@ -33,8 +38,7 @@ pub fn one_meaning()
     ensures { (command : Option Command) (world : World) (tables : Option TablesView) (one other : Plan) → MeansCommand command world tables one → MeansCommand command world tables other → one ≡ other }
 {
     one_reading();
-    trials_are_loaded_one_way();
-    one_slice_of_a_trial();
+    replies_by_tables();
 }
 
 /// Completeness: where the words mean a plan, the status is that of its ending, or it tells of a fault. 5, 6 and 7 come where the count of the console, of the
@@ -83,6 +87,27 @@ pub fn writes_prefixes()
 pub fn writes_slice()
     ensures { (words : List (List ℕ)) (before after : Seen) (was is : Stored) (status : ℕ) → Replies words before after was is status → (of : OneEvaluation) (tables : TablesView)
         → command_of words ≡ Some (reads (Slice of)) → tables_told was is ≡ Some tables → status ≡ 0 → WritesSlice of tables before after }
+{
+    ends_in_one_way();
+    done_is_whole();
+}
+
+/// The law of values: `value T LINE COL K` with status 0, over a store that told its tables, has written the two lines of the value of the evaluation in the trial T,
+/// and nothing else.
+pub fn writes_value()
+    ensures { (words : List (List ℕ)) (before after : Seen) (was is : Stored) (status : ℕ) → Replies words before after was is status → (of : OneEvaluation) (tables : TablesView)
+        → command_of words ≡ Some (reads (Value of)) → tables_told was is ≡ Some tables → status ≡ 0 → WritesAnswer (IsValueAt of.at of.k) of.trial tables before after }
+{
+    ends_in_one_way();
+    done_is_whole();
+}
+
+/// The law of replays: `replay T LINE COL K` with status 0, over a store that told its tables, has written the two lines of the value that the run of the slice of the evaluation
+/// in the trial T gives there, and nothing else.
+pub fn writes_replay()
+    ensures { (words : List (List ℕ)) (before after : Seen) (was is : Stored) (status : ℕ) → Replies words before after was is status → (of : OneEvaluation) (tables : TablesView)
+        → command_of words ≡ Some (reads (Replay of)) → tables_told was is ≡ Some tables → status ≡ 0
+        → WritesAnswer (λ trial text. IsReplayAt of.at of.k trial (Lines text)) of.trial tables before after }
 {
     ends_in_one_way();
     done_is_whole();
@@ -151,6 +176,8 @@ pub fn replies_by_tables()
 {
     trials_are_loaded_one_way();
     one_slice_of_a_trial();
+    one_value_of_a_trial();
+    one_replay_of_a_trial();
     no_fault_answered();
     ends_in_one_way();
     no_count_rose();
@@ -162,8 +189,7 @@ pub fn reading_completes()
         → command_of words ≡ Some (reads query) → tables_told was is ≡ Some tables → Reply query tables plan
         → (Rose before.faults.put after.faults.put → ⊥) → (Rose before.faults.write after.faults.write → ⊥) → (Rose was.faults is.faults → ⊥) → (status ≡ status_of plan.ending) ⊎ (status ≡ 8) }
 {
-    trials_are_loaded_one_way();
-    one_slice_of_a_trial();
+    replies_by_tables();
     ends_in_one_way();
 }
 

@@ -4,15 +4,21 @@ ghost use Rattle.keeper.specs.Tables.{TablesView};
 ghost use Rattle.std.specs.String.{string_bytes};
 ghost use Rattle.now_words.specs.Command.{command_of, reads, run_kept};
 ghost use Rattle.now_words.specs.declared.command.Evaluation.{Evaluation as OneEvaluation};
-ghost use Rattle.now_words.specs.declared.command.Query.TheVariants.{Slice};
-ghost use Rattle.now_top.specs.Completes.{IsTold, WritesSlice};
+ghost use Rattle.now_words.specs.declared.command.Query.TheVariants.{Slice, Value, Replay};
+ghost use Rattle.trial_replay.specs.Replays.{IsReplayAt};
+ghost use Rattle.trial_replay.specs.declared.replaying.Replayed.TheVariants.{Lines};
+ghost use Rattle.trial_value.specs.Values.{IsValueAt};
+ghost use Rattle.now_top.specs.Completes.{IsTold, WritesAnswer, WritesSlice};
 ghost use Rattle.now_top.specs.Promises.{DidAll, KeptRun, WrotePrefix};
 ghost use Rattle.now_top.specs.Replies.{RepliesWith};
 ghost use Rattle.now_top.specs.Reply.{WritesSomeSlice};
 ghost use Rattle.now_top.specs.Kept.{stored, tables_told};
 
 use crate::deliver::deliver_plan;
-use crate::laws::{does_as_meant, keeps_trial, writes_prefixes, writes_slice, writes_some_slice};
+use crate::laws::{
+    does_as_meant, keeps_trial, writes_prefixes, writes_replay, writes_slice, writes_some_slice,
+    writes_value,
+};
 use crate::plan::plan;
 use answer_source::{Devices, Exposes};
 use keeper::Keeper;
@@ -22,13 +28,14 @@ use std::alloc::Global;
 /// Does what the words ask for over the devices and the store of trials, gives the devices back, and answers the exit status.
 ///
 /// `run [--steps N] FILE [ARG]..` runs the script at FILE within N steps, from 1 to 1,000,000, with these arguments, and keeps the run as a trial; the files that it
-/// opened for writing are put once it is over, and then its output is written. With `--bare` nothing is kept. `list` writes a line for each trial, by number. `show T` writes the
+/// opened for writing are put once it is over, and then its output is written. With `--bare` nothing is kept. `list` writes a line for each trial, by number, and `history` its parent and whether it is current. `show T` writes the
 /// lines of the trial T. `slice T LINE COL K` writes the slice of an evaluation of the trial T, the K-th at that place: its script cut to the least closed set of statements
-/// on which the value depends. These leave the store as it was. FILE is a path below the folder, of at most 255 bytes, and a script has at most 262,144 bytes.
+/// on which the value depends. `value T LINE COL K` writes the graph text of the value of that evaluation, and the steps that the run had spent by then. `replay T LINE COL K` runs that slice with
+/// the answers that the trial keeps, and writes the same of its run. These leave the store as it was. FILE is a path below the folder, of at most 255 bytes, and a script has at most 262,144 bytes.
 ///
 /// The statuses are 0 done, 1 an exception that nothing caught, 2 the words are no command, 3 the script is refused, 4 nothing there. 5 is a console
 /// that failed, 6 a folder that failed, 7 a keeper that failed, 8 out of memory, 9 out of steps, 10 other bytes under the digest of a content, 11 a trial that is not
-/// well kept, 13 a store that is full.
+/// well kept, 12 a replay that does not come to the evaluation, 13 a store that is full.
 pub fn now<C: Console + Drop, F: Folder + Drop, M: ClockAndRandom + Drop, K: Keeper>(
     alloc: Global,
     words: &[String],
@@ -51,6 +58,12 @@ pub fn now<C: Console + Drop, F: Folder + Drop, M: ClockAndRandom + Drop, K: Kee
     // The same over a store that tells nothing: the slice in some trial with the number, whose text is its script and whose rows are kept rows.
     ensures wrote_some_slice { (of : OneEvaluation) → command_of (map string_bytes words.now) ≡ Some (reads (Slice of)) → result.0 ≡ 0
         → WritesSomeSlice of (⟦<Devices<C, F, M> as Exposes>⟧.seen devices) (⟦<Devices<C, F, M> as Exposes>⟧.seen result.1) }
+    // With status 0 `value` has written the two lines of the value of the evaluation, and nothing else.
+    ensures wrote_value { (of : OneEvaluation) (tables : TablesView) → command_of (map string_bytes words.now) ≡ Some (reads (Value of)) → tables_told (stored K.told K.faults keeper.old) (stored K.told K.faults keeper.new) ≡ Some tables → result.0 ≡ 0
+        → WritesAnswer (IsValueAt of.at of.k) of.trial tables (⟦<Devices<C, F, M> as Exposes>⟧.seen devices) (⟦<Devices<C, F, M> as Exposes>⟧.seen result.1) }
+    // With status 0 `replay` has written the two lines of the value that the run of the slice of the evaluation gives there, and nothing else.
+    ensures wrote_replay { (of : OneEvaluation) (tables : TablesView) → command_of (map string_bytes words.now) ≡ Some (reads (Replay of)) → tables_told (stored K.told K.faults keeper.old) (stored K.told K.faults keeper.new) ≡ Some tables → result.0 ≡ 0
+        → WritesAnswer (λ trial text. IsReplayAt of.at of.k trial (Lines text)) of.trial tables (⟦<Devices<C, F, M> as Exposes>⟧.seen devices) (⟦<Devices<C, F, M> as Exposes>⟧.seen result.1) }
     // Whatever came, the console got a prefix of the text and then of a closing line.
     ensures wrote_prefix { WrotePrefix (map string_bytes words.now) (⟦<Devices<C, F, M> as Exposes>⟧.seen devices) (⟦<Devices<C, F, M> as Exposes>⟧.seen result.1) (stored K.told K.faults keeper.old) (stored K.told K.faults keeper.new) result.0 }
     ensures batch { K.is_open keeper.new ≡ false }
@@ -60,6 +73,8 @@ pub fn now<C: Console + Drop, F: Folder + Drop, M: ClockAndRandom + Drop, K: Kee
     writes_prefixes();
     writes_slice();
     writes_some_slice();
+    writes_value();
+    writes_replay();
     let (planned, mut devices) = plan(alloc, words, devices, keeper);
     let status = deliver_plan(alloc, &planned, &mut devices.console, &mut devices.folder);
     (status, devices)

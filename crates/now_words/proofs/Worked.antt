@@ -1,7 +1,7 @@
 -- Worked rows of the definitions, each found by computation.
 use Rattle.std.proofs.Common.{◌≡◌, ℕ, List, [], ◌∷◌, codes, Option, Some, None, refl}
 use Rattle.now_words.specs.Command.{Command, run_bare, run_kept, reads, command_of, evaluation_at}
-use Rattle.now_words.specs.declared.command.Query.TheVariants.{List as list_query, Show, Slice}
+use Rattle.now_words.specs.declared.command.Query.TheVariants.{List as list_query, History, Show, Slice, Value, Replay}
 
 abbrev file : List ℕ
 file = codes "s.py"
@@ -104,6 +104,12 @@ list_alone = refl
 list_with_dashes : command_of (codes "list" ∷ codes "--" ∷ []) ≡ Some (reads list_query)
 list_with_dashes = refl
 
+history_alone : command_of (codes "history" ∷ []) ≡ Some (reads History)
+history_alone = refl
+
+history_of_one : command_of (codes "history" ∷ codes "1" ∷ []) ≡ None
+history_of_one = refl
+
 list_of_one : command_of (codes "list" ∷ codes "1" ∷ []) ≡ None
 list_of_one = refl
 
@@ -151,6 +157,15 @@ show_empty = refl
 
 slice_one : command_of (codes "slice" ∷ codes "1" ∷ codes "7" ∷ codes "12" ∷ codes "3" ∷ []) ≡ Some (reads (Slice (evaluation_at 1 7 12 3)))
 slice_one = refl
+
+value_one : command_of (codes "value" ∷ codes "1" ∷ codes "7" ∷ codes "12" ∷ codes "3" ∷ []) ≡ Some (reads (Value (evaluation_at 1 7 12 3)))
+value_one = refl
+
+replay_one : command_of (codes "replay" ∷ codes "1" ∷ codes "7" ∷ codes "12" ∷ codes "3" ∷ []) ≡ Some (reads (Replay (evaluation_at 1 7 12 3)))
+replay_one = refl
+
+replay_of_three : command_of (codes "replay" ∷ codes "1" ∷ codes "7" ∷ codes "12" ∷ []) ≡ None
+replay_of_three = refl
 
 slice_leading_zeros : command_of (codes "slice" ∷ codes "01" ∷ codes "007" ∷ codes "1" ∷ codes "4294967295" ∷ []) ≡ Some (reads (Slice (evaluation_at 1 7 1 4294967295)))
 slice_leading_zeros = refl

@@ -5,7 +5,7 @@ use Rattle.std.specs.Str.{bytes_eq}
 use Rattle.now_words.specs.Numbers.{number_to}
 use Rattle.now_words.specs.declared.command.Evaluation.{Evaluation}
 use Rattle.now_words.specs.declared.command.Query.{Query}
-use Rattle.now_words.specs.declared.command.Query.TheVariants.{List as list_query, Show, Slice}
+use Rattle.now_words.specs.declared.command.Query.TheVariants.{List as list_query, History, Show, Slice, Value, Replay}
 
 pub data Command : Type 0 where
   -- a run of a file within so many steps that keeps nothing
@@ -89,10 +89,10 @@ positional_words (word ∷ words) =
     else if is_option word then None
     else option_map (λ more. word ∷ more) (positional_words words)
 
--- `list` has no positional, `show` has one, which is a number from 1
-abbrev pub list_of : List (List ℕ) → Option Query
-list_of [] = Some list_query
-list_of (word ∷ words) = None
+-- `list` and `history` have no positional, `show` has one, which is a number from 1
+abbrev pub alone_of : Query → List (List ℕ) → Option Query
+alone_of query [] = Some query
+alone_of query (word ∷ words) = None
 
 abbrev pub show_of : List (List ℕ) → Option Query
 show_of [] = None
@@ -116,13 +116,21 @@ evaluation_of (trial ∷ line ∷ column ∷ []) = None
 evaluation_of (trial ∷ line ∷ column ∷ k ∷ []) = evaluation_by trial line column k
 evaluation_of (trial ∷ line ∷ column ∷ k ∷ other ∷ words) = None
 
+-- what a command word asks for that stands before the words of an evaluation
+abbrev pub evaluation_query_of : List ℕ → List (List ℕ) → Option Query
+evaluation_query_of verb given =
+    if bytes_eq verb (codes "slice") then option_map Slice (evaluation_of given)
+    else if bytes_eq verb (codes "value") then option_map Value (evaluation_of given)
+    else if bytes_eq verb (codes "replay") then option_map Replay (evaluation_of given)
+    else None
+
 -- what a command that reads the store asks for, by its command word and its positionals
 abbrev pub query_of : List ℕ → List (List ℕ) → Option Query
 query_of verb given =
-    if bytes_eq verb (codes "list") then list_of given
+    if bytes_eq verb (codes "list") then alone_of list_query given
+    else if bytes_eq verb (codes "history") then alone_of History given
     else if bytes_eq verb (codes "show") then show_of given
-    else if bytes_eq verb (codes "slice") then option_map Slice (evaluation_of given)
-    else None
+    else evaluation_query_of verb given
 
 -- a command that reads the store, by its command word and the words behind it
 abbrev pub query_command : List ℕ → List (List ℕ) → Option Command

@@ -17,10 +17,16 @@ pub struct Evaluation {
 pub enum Query {
     /// `list`: all trials, by number.
     List,
+    /// `history`: all trials, by number, each with its parent and whether it is the current one of its path.
+    History,
     /// `show T`: the trial with this number, from 1.
     Show(u32),
     /// `slice T LINE COL K`: the slice of this evaluation.
     Slice(Evaluation),
+    /// `value T LINE COL K`: the value of this evaluation as the trial has it, and the steps up to it.
+    Value(Evaluation),
+    /// `replay T LINE COL K`: the same, from the run of the slice in what the devices gave.
+    Replay(Evaluation),
 }
 
 /// A command. Its file is one of the words as it stands there, which need not be a path.

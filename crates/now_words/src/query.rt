@@ -1,7 +1,7 @@
 // The words of a command that reads the store of trials.
 ghost use Rattle.std.specs.Prelude.{◌≡◌, ◌∷◌, [], ℕ, List, map, option_and_then, option_map, IfOk};
 ghost use Rattle.std.specs.String.{string_bytes};
-ghost use Rattle.now_words.specs.Command.{evaluation_by, evaluation_of, list_of, positional_words, query_command, query_of, show_of};
+ghost use Rattle.now_words.specs.Command.{evaluation_by, evaluation_of, alone_of, evaluation_query_of, positional_words, query_command, query_of, show_of};
 ghost use Rattle.now_words.specs.Parsed.{command_of_code};
 ghost use Rattle.now_words.specs.Positionals.{behind, positionals_from};
 
@@ -52,12 +52,12 @@ fn positionals<'w>(alloc: Global, words: &'w [String]) -> Result<Option<Vec<&'w 
     Ok(Some(taken))
 }
 
-// What `list` asks for.
-fn list_query(given: &[&str]) -> Option<Query>
-    ensures { result ≡ list_of (map (λ k. k.now) given.now) }
+// What a command word asks for that stands alone.
+fn alone(query: Query, given: &[&str]) -> Option<Query>
+    ensures { result ≡ alone_of query (map (λ k. k.now) given.now) }
 {
     match given {
-        [] => Some(Query::List),
+        [] => Some(query),
         _ => None,
     }
 }
@@ -99,21 +99,39 @@ fn evaluation_in(given: &[&str]) -> Option<Evaluation>
     }
 }
 
+// What a command word asks for that stands before the words of an evaluation.
+fn evaluation_query(verb: &str, given: &[&str]) -> Option<Query>
+    ensures { result ≡ evaluation_query_of verb.now (map (λ k. k.now) given.now) }
+{
+    if verb == "slice" {
+        let found = evaluation_in(given)?;
+        return Some(Query::Slice(found));
+    }
+    if verb == "value" {
+        let found = evaluation_in(given)?;
+        return Some(Query::Value(found));
+    }
+    if verb == "replay" {
+        let found = evaluation_in(given)?;
+        return Some(Query::Replay(found));
+    }
+    None
+}
+
 // What a command word and its positionals ask for.
 fn query_by(verb: &str, given: &[&str]) -> Option<Query>
     ensures { result ≡ query_of verb.now (map (λ k. k.now) given.now) }
 {
     if verb == "list" {
-        return list_query(given);
+        return alone(Query::List, given);
+    }
+    if verb == "history" {
+        return alone(Query::History, given);
     }
     if verb == "show" {
         return show_query(given);
     }
-    if verb == "slice" {
-        let found = evaluation_in(given)?;
-        return Some(Query::Slice(found));
-    }
-    None
+    evaluation_query(verb, given)
 }
 
 /// The command of a command word that reads the store, and of the words behind it.

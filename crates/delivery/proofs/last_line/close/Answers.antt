@@ -1,5 +1,5 @@
 use Rattle.std.proofs.Common.{refl, option_copied}
-use Rattle.delivery.specs.Ending.{done, uncaught, usage, refused, nothing_there, folder_failed, store_failed, out_of_memory, out_of_steps, collision, store_full, damaged_trial}
+use Rattle.delivery.specs.Ending.{done, uncaught, usage, refused, nothing_there, folder_failed, store_failed, out_of_memory, out_of_steps, not_reached, collision, store_full, damaged_trial}
 use Rattle.delivery.proofs.Finishing.{closed, not_closed}
 use Rattle.delivery.proofs.last_line.close.Goals as goal
 
@@ -43,3 +43,6 @@ returns-in-StoreFull-clause-closes g c = rw c.in-StoreFull.is (closed store_full
 pub returns-in-DamagedTrial-clause-closes : goal.returns-in-DamagedTrial-clause-closes
 returns-in-DamagedTrial-clause-closes g c = rw c.in-DamagedTrial.is
     (c.close_made-in-DamagedTrial.ensures.closes (damaged_trial c.in-DamagedTrial.trial c.in-DamagedTrial.detail.now) c.damaged_line.ensures refl refl refl)
+
+pub returns-in-NotReached-clause-closes : goal.returns-in-NotReached-clause-closes
+returns-in-NotReached-clause-closes g c = rw c.in-NotReached.is (closed not_reached 12 _ _ _ _ _ refl refl c.write_line-in-NotReached.ensures.tries)

@@ -87,6 +87,38 @@ returns-clause-wrote_slice g c = λ of tables word told zero. c.writes_slice.ens
   };
 }) of tables word told zero
 
+pub returns-clause-wrote_value : goal.returns-clause-wrote_value
+returns-clause-wrote_value g c = λ of tables word told zero. c.writes_value.ensures (map string_bytes c.args.words.now) _ _ _ _ _ (record {
+  plan = plan_of c.plan-planned.result.0;
+  ran = _;
+  plans = c.plan-planned.ensures.plans.plans;
+  delivers = record {
+    delivered = c.deliver_plan-status.ensures.delivered;
+    moments = refl;
+    line = c.deliver_plan-status.ensures.in_faults;
+    file = c.deliver_plan-status.ensures.get_faults;
+    source = c.deliver_plan-status.ensures.source_faults;
+    time = refl;
+    word = refl;
+  };
+}) of tables word told zero
+
+pub returns-clause-wrote_replay : goal.returns-clause-wrote_replay
+returns-clause-wrote_replay g c = λ of tables word told zero. c.writes_replay.ensures (map string_bytes c.args.words.now) _ _ _ _ _ (record {
+  plan = plan_of c.plan-planned.result.0;
+  ran = _;
+  plans = c.plan-planned.ensures.plans.plans;
+  delivers = record {
+    delivered = c.deliver_plan-status.ensures.delivered;
+    moments = refl;
+    line = c.deliver_plan-status.ensures.in_faults;
+    file = c.deliver_plan-status.ensures.get_faults;
+    source = c.deliver_plan-status.ensures.source_faults;
+    time = refl;
+    word = refl;
+  };
+}) of tables word told zero
+
 pub returns-clause-wrote_some_slice : goal.returns-clause-wrote_some_slice
 returns-clause-wrote_some_slice g c = λ of word zero. c.writes_some_slice.ensures (map string_bytes c.args.words.now) _ _ _ _ _ (record {
   plan = plan_of c.plan-planned.result.0;

@@ -1,0 +1,15 @@
+use Rattle.std.proofs.Common.{arith}
+use Rattle.now_words.specs.declared.command.Query.TheVariants.{Value}
+use Rattle.now_top.proofs.Completing.{reply_so, reply_answers, value_done, answers_so}
+use Rattle.now_top.specs.Reply.{ValuesOf}
+use Rattle.trial_value.specs.Values.{IsValueAt}
+use Rattle.now_top.proofs.laws.writes_value.Goals as goal
+
+pub returns : goal.returns
+returns c = λ words before after was is status so of tables word told zero.
+    let whole = c.done_is_whole.ensures so.plan.ending so.plan.text so.plan.files so.ran.faults.put after.faults.put so.ran.folder after.folder so.ran.faults.write after.faults.write so.ran.console after.console status so.delivers.delivered zero in
+    answers_so words before after was is status so (IsValueAt of.at of.k) of.trial tables
+    (reply_answers (ValuesOf of) (IsValueAt of.at of.k) (value_done of) tables of.trial so.plan
+    (reply_so words before after was is status so (Value of) tables word told (c.ends_in_one_way.ensures so.plan.ending so.plan.text so.plan.files so.ran.faults.put after.faults.put so.ran.folder after.folder so.ran.faults.write after.faults.write so.ran.console after.console status so.delivers.delivered)
+    (λ five. absurd (omega (arith, zero, five))) (λ six. absurd (omega (arith, zero, six))) (λ seven. absurd (omega (arith, zero, seven))) (λ eight. absurd (omega (arith, zero, eight)))) whole.0)
+    whole.0 whole.1.console
