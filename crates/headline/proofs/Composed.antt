@@ -1,5 +1,5 @@
 -- From the call that kept a run to the call that wrote a slice.
-use Rattle.std.proofs.Common.{◌≡◌, ℕ, List, [], ◌∷◌, Option, Some, None, refl, sym, subst}
+use Rattle.std.proofs.Common.{◌≡◌, ℕ, List, [], ◌∷◌, ◌++◌, Option, Some, None, refl, sym, subst}
 use Rattle.std.proofs.lemmas.Option.{same_Some}
 use Rattle.keeper.specs.Keeping.{KeeperView}
 use Rattle.keeper.specs.Tables.{TablesView}
@@ -7,6 +7,7 @@ use Rattle.now_top.specs.Calls.{Calls, HasTrials, HasTrialsOf}
 use Rattle.now_top.specs.Kept.{Clock, KeepsRun, Stored, tables_in}
 use Rattle.now_top.specs.World.{World, Plan}
 use Rattle.prov_base.specs.declared.place.Pos.{Pos}
+use Rattle.prov_outside.specs.Console.{ConsoleView}
 use Rattle.prov_outside.specs.Tells.{Tells}
 use Rattle.py_model.specs.Capture.{Telling}
 use Rattle.sound_trials.specs.Recorded.{KeptMore, no_more, one_more, WasRecorded}
@@ -62,3 +63,7 @@ runs_at tables ends at k text m n same runs = subst (λ j. (slice : HasSlice tab
 pub sound_at : (tables : TablesView) (ends : Telling) (at : Pos) (k : ℕ) (text : List ℕ) (m n : ℕ) → n ≡ m → ((slice : HasSlice tables m at k text) → IsSound slice.trial ends)
     → (slice : HasSlice tables n at k text) → IsSound slice.trial ends
 sound_at tables ends at k text m n same sound = subst (λ j. (slice : HasSlice tables j at k text) → IsSound slice.trial ends) (sym same) sound
+
+-- what was written is these lines
+pub wrote_lines : (was is : Option ConsoleView) (text lines : List ℕ) → text ≡ lines → Tells was is (λ (old new : ConsoleView). new.written ≡ old.written ++ text) → Tells was is (λ (old new : ConsoleView). new.written ≡ old.written ++ lines)
+wrote_lines was is text lines same told = subst (λ (it : List ℕ). Tells was is (λ (old new : ConsoleView). new.written ≡ old.written ++ it)) same told
