@@ -1,8 +1,8 @@
 #!/usr/bin/env python3
-"""slice_speed.py NOW [TIMES]: what `slice` costs over the trials of scripts that were made for it, beside their recorded runs.
+"""slice_speed.py NOW [TIMES]: what `slice`, `value` and `replay` cost over the trials of scripts that were made for it, beside their recorded runs.
 
-NOW is the built program. Prints for each script the steps of its run, the processor seconds of user and system time of the run that keeps it and of the slice, the
-least of TIMES (3), with the start of the program, and the most memory that the slice took."""
+NOW is the built program. Prints for each script the steps of its run, the processor seconds of user and system time of the run that keeps it and of each question, the
+least of TIMES (3), with the start of the program, and the most memory that the question took."""
 import os
 import resource
 import subprocess
@@ -44,6 +44,23 @@ def long_value():
     return "xs = list(range(100000))\nprint(len(xs))\ny = xs\n", (3, 5, 1)
 
 
+def many_keys():
+    return "d = {}\nfor i in range(50000):\n    d[i] = i\ny = d\n", (4, 5, 1)
+
+
+def nest():
+    return "x = []\nfor i in range(100000):\n    x = [x]\ny = x\n", (4, 5, 1)
+
+
+def shared():
+    return "t = [0]\nxs = []\nfor i in range(50000):\n    xs.append(t)\ny = xs\n", (5, 5, 1)
+
+
+def few_of_many():
+    # A value that needs four of the statements of a long run.
+    return "a = 1\nb = a + 1\nn = 0\nfor i in range(30000):\n    n = n * 3 % 1000003 + i\nprint(n)\nprint(b)\n", (7, 7, 1)
+
+
 CASES = {
     "30,000 turns of a loop": turns(30000),
     "15,000 turns of it": turns(15000),
@@ -52,6 +69,10 @@ CASES = {
     "a chain of 14,000 statements": chain(),
     "900 calls inside one another": falling(),
     "a list of 100,000 items as the value": long_value(),
+    "a dictionary of 50,000 keys as the value": many_keys(),
+    "a list nested 100,000 deep as the value": nest(),
+    "a list that holds one list 50,000 times": shared(),
+    "a value that needs three statements of a loop of 30,000 turns": few_of_many(),
 }
 
 
@@ -71,9 +92,11 @@ def main(now, times):
             bare = min(spent([now, "run", "--bare", "s.py"], folder)[1] for _ in range(times))
             kept = spent([now, "run", "s.py"], folder)
             listed = subprocess.run([now, "list"], cwd=folder, stdout=subprocess.PIPE, check=True).stdout.split()
-            slices = [spent([now, "slice", "1", *map(str, place)], folder) for _ in range(times)]
-        status, seconds, memory = min(slices, key=lambda it: it[1])
-        print(f"| {name} | status {kept[0]}, {listed[2].decode()} steps | bare {bare:.2f} s | kept {kept[1]:.2f} s, {kept[2]:.0f} MB | slice status {status}, {seconds:.2f} s, {memory:.0f} MB |", flush=True)
+            asked = []
+            for word in ("slice", "value", "replay"):
+                status, seconds, memory = min((spent([now, word, "1", *map(str, place)], folder) for _ in range(times)), key=lambda it: it[1])
+                asked.append(f"{word} status {status}, {seconds:.2f} s, {memory:.0f} MB")
+        print(f"| {name} | status {kept[0]}, {listed[2].decode()} steps | bare {bare:.2f} s | kept {kept[1]:.2f} s, {kept[2]:.0f} MB | {' | '.join(asked)} |", flush=True)
 
 
 if __name__ == "__main__":
