@@ -49,7 +49,7 @@ def many_keys():
 
 
 def nest():
-    return "x = []\nfor i in range(100000):\n    x = [x]\ny = x\n", (4, 5, 1)
+    return "x = []\nfor i in range(10000):\n    x = [[[[[[[[[[x]]]]]]]]]]\ny = x\n", (4, 5, 1)
 
 
 def shared():
