@@ -7,7 +7,8 @@ use Rattle.std.proofs.lemmas.Option.{slice_get_within, get_or_from_slice_get}
 use Rattle.py_value.specs.Values.{StandOnce}
 use Rattle.slice_edges.specs.declared.ask.Ask.{Ask}
 use Rattle.slice_edges.specs.contracts.ask.AskPartialEq.TheImpl.{ghosts as asks_eq}
-use Rattle.slice_edges.specs.Asks.{among}
+use Rattle.slice_law.specs.Edges.{Reason}
+use Rattle.slice_edges.specs.Asks.{reason_of, is_by, among_by}
 
 same_ask : (a b : Ask) → asks_eq.eq a b ≡ true → a ≡ b
 same_ask a b is = search rules
@@ -41,19 +42,9 @@ module _ {A : Type 0} (test : A → Bool) where
       by true is = any_there eq same xs x is
       by false is = any_behind xs x
 
-pub among_more : (keys : List Ask) (k : Ask) (s r : ℕ) → among (if list_any (asks_eq.eq k) keys then keys else keys ++ k ∷ []) s r ≡ (((k.asker == s) && (k.asked == r)) || among keys s r)
-among_more keys k s r = any_put (λ (a : Ask). (a.asker == s) && (a.asked == r)) asks_eq.eq same_ask keys k
-
--- one of several is asked for
-pub each_turn : (asker first r s : ℕ) (e rest all old now next : Bool) → e ≡ (first == r) → (((asker == s) && (e || rest)) || now) ≡ (((asker == s) && all) || old) → next ≡ (((asker == s) && (first == r)) || now)
-    → (((asker == s) && rest) || next) ≡ (((asker == s) && all) || old)
-each_turn asker first r s e rest all old now next same is turn = ap (λ b. ((asker == s) && rest) || b) (turn ∙ ap (λ b. ((asker == s) && b) || now) (sym same)) ∙ both (asker == s) e rest now ∙ is
-  where
-    both : (a e r n : Bool) → ((a && r) || ((a && e) || n)) ≡ ((a && (e || r)) || n)
-    both true true true n = refl
-    both true true false n = refl
-    both true false r n = refl
-    both false e r n = refl
+pub among_more : (keys : List Ask) (k : Ask) (reason : Reason) (s r : ℕ)
+    → among_by (if list_any (asks_eq.eq k) keys then keys else keys ++ k ∷ []) reason s r ≡ ((is_by (reason_of k.why) k.asker reason s && (k.asked == r)) || among_by keys reason s r)
+among_more keys k reason s r = any_put (λ (a : Ask). is_by (reason_of a.why) a.asker reason s && (a.asked == r)) asks_eq.eq same_ask keys k
 
 -- one of several reads asks
 pub read_turn : (a e rest all old now next : Bool) → ((a && (e || rest)) || now) ≡ ((a && all) || old) → next ≡ ((a && e) || now) → ((a && rest) || next) ≡ ((a && all) || old)

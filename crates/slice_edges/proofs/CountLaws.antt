@@ -10,8 +10,10 @@ use Rattle.py_value.specs.declared.access.Location.{Location}
 use Rattle.py_value.specs.contracts.access.LocationPartialEq.TheImpl.{ghosts as locations}
 use Rattle.py_value.proofs.Equality.{location_same}
 use Rattle.slice_law.specs.Closed.{has}
+use Rattle.slice_law.specs.Edges.{Reason, by_data}
 use Rattle.slice_edges.specs.declared.ask.Ask.{Ask}
-use Rattle.slice_edges.specs.Asks.{among}
+use Rattle.slice_edges.specs.Asks.{among_by, is_by, same_reason}
+use Rattle.slice_edges.proofs.ReasonLaws.{reason_same}
 use Rattle.slice_edges.specs.Counts.{count_in, count_at, AreCounted}
 use Rattle.slice_edges.specs.Writers.{found_at, noted_at, with_owner, after_set, after_change, sets_in, updates_in}
 
@@ -99,29 +101,37 @@ has_both r (x ∷ xs) ys = ap (λ b. (x == r) || b) (has_both r xs ys) ∙ assoc
     assoc false b c = refl
 
 -- the rest is asked for, and the first ones were
-pub rest_asked : (asker n s r : ℕ) (stmts : List ℕ) (old new : Bool) → (s ≡ asker → has r (take n stmts) ≡ true → old ≡ true) → new ≡ (((asker == s) && has r (drop n stmts)) || old)
-    → new ≡ (((asker == s) && has r stmts) || old)
-rest_asked asker n s r stmts old new first is =
-    is ∙ by (asker == s) refl (has r (take n stmts)) refl ∙ ap (λ b. ((asker == s) && b) || old) (sym (has_both r (take n stmts) (drop n stmts)) ∙ ap (has r) (take-append-drop n stmts))
+pub rest_asked : (own : Bool) (n r : ℕ) (stmts : List ℕ) (old new : Bool) → (own ≡ true → has r (take n stmts) ≡ true → old ≡ true) → new ≡ ((own && has r (drop n stmts)) || old)
+    → new ≡ ((own && has r stmts) || old)
+rest_asked own n r stmts old new first is =
+    is ∙ by own refl (has r (take n stmts)) refl ∙ ap (λ b. (own && b) || old) (sym (has_both r (take n stmts) (drop n stmts)) ∙ ap (has r) (take-append-drop n stmts))
   where
     or_true : (a b : Bool) → b ≡ true → (a || b) ≡ true
     or_true true b there = refl
     or_true false b there = there
 
-    by : (a : Bool) → (asker == s) ≡ a → (t : Bool) → has r (take n stmts) ≡ t → ((a && has r (drop n stmts)) || old) ≡ ((a && (t || has r (drop n stmts))) || old)
+    by : (a : Bool) → own ≡ a → (t : Bool) → has r (take n stmts) ≡ t → ((a && has r (drop n stmts)) || old) ≡ ((a && (t || has r (drop n stmts))) || old)
     by false other t front = refl
     by true same false front = refl
-    by true same true front = or_true (has r (drop n stmts)) old (first (sym (omega (arith, eqb-true asker s same))) front)
+    by true same true front = or_true (has r (drop n stmts)) old (first same front)
+
+both_true : (a b : Bool) → (a && b) ≡ true → (a ≡ true) × (b ≡ true)
+both_true true b is = (refl, is)
+both_true false b is = absurd (false≢true is)
 
 pub asked_here : (old new : List Ask) (entries : List (Location × List ℕ)) (counts : List (Location × List (ℕ × ℕ))) (at : Location) (asker n : ℕ) (stmts rest : List ℕ) → n ≡ count_at counts at asker
-    → (n ≤ length stmts → rest ≡ drop n stmts) → ((s r : ℕ) → among new s r ≡ (((asker == s) && has r rest) || among old s r)) → AreCounted old entries counts → noted_at entries at ≡ stmts
-    → (s r : ℕ) → among new s r ≡ (((asker == s) && has r stmts) || among old s r)
-asked_here old new entries counts at asker n stmts rest counted behind asked right here s r =
+    → (n ≤ length stmts → rest ≡ drop n stmts) → ((reason : Reason) (s r : ℕ) → among_by new reason s r ≡ ((is_by by_data asker reason s && has r rest) || among_by old reason s r)) → AreCounted old entries counts → noted_at entries at ≡ stmts
+    → (reason : Reason) (s r : ℕ) → among_by new reason s r ≡ ((is_by by_data asker reason s && has r stmts) || among_by old reason s r)
+asked_here old new entries counts at asker n stmts rest counted behind asked right here reason s r =
     let all : length (noted_at entries at) ≡ length stmts = ap length here in
     let within = (right at asker).0 in
-    rest_asked asker n s r stmts (among old s r) (among new s r)
-    (λ mine front. ap (λ who. among old who r) mine ∙ (right at asker).1 r (ap (λ k. has r (take k (noted_at entries at))) (sym counted) ∙ ap (λ xs. has r (take n xs)) here ∙ front))
-    (asked s r ∙ ap (λ xs. ((asker == s) && has r xs) || among old s r) (behind (omega (arith, counted, all, within))))
+    rest_asked (is_by by_data asker reason s) n r stmts (among_by old reason s r) (among_by new reason s r)
+    (λ mine front.
+    let own = both_true (asker == s) (same_reason by_data reason) mine in
+    let who : s ≡ asker = let same = eqb-true asker s own.0 in omega (arith, same) in
+    let why : reason ≡ by_data = sym (reason_same by_data reason own.1) in
+    ap (λ (known : Reason). among_by old known s r) why ∙ ap (λ (n : ℕ). among_by old by_data n r) who ∙ (right at asker).1 r (ap (λ k. has r (take k (noted_at entries at))) (sym counted) ∙ ap (λ xs. has r (take n xs)) here ∙ front))
+    (asked reason s r ∙ ap (λ xs. (is_by by_data asker reason s && has r xs) || among_by old reason s r) (behind (omega (arith, counted, all, within))))
 
 -- ---- what is counted stays right
 
@@ -129,29 +139,29 @@ pub monotone : (here old new : Bool) → new ≡ (here || old) → old ≡ true 
 monotone true old new is there = is
 monotone false old new is there = is ∙ there
 
-pub more_asked : (old new : List Ask) (entries : List (Location × List ℕ)) (counts : List (Location × List (ℕ × ℕ))) → ((s r : ℕ) → among old s r ≡ true → among new s r ≡ true)
+pub more_asked : (old new : List Ask) (entries : List (Location × List ℕ)) (counts : List (Location × List (ℕ × ℕ))) → ((s r : ℕ) → among_by old by_data s r ≡ true → among_by new by_data s r ≡ true)
     → AreCounted old entries counts → AreCounted new entries counts
 more_asked old new entries counts more right l asker = ((right l asker).0, λ r there. more asker r ((right l asker).1 r there))
 
 -- so many of the statements were asked for
 abbrev Asked : List Ask → ℕ → ℕ → List ℕ → Type 0
-Asked asks a n numbers = (n ≤ length numbers) × ((r : ℕ) → has r (take n numbers) ≡ true → among asks a r ≡ true)
+Asked asks a n numbers = (n ≤ length numbers) × ((r : ℕ) → has r (take n numbers) ≡ true → among_by asks by_data a r ≡ true)
 
 -- all statements at a location were asked for
 pub counted_all : (old new : List Ask) (entries : List (Location × List ℕ)) (before after : List (Location × List (ℕ × ℕ))) (at : Location) (asker : ℕ) (stmts : List ℕ)
-    → noted_at entries at ≡ stmts → ((s r : ℕ) → among new s r ≡ (((asker == s) && has r stmts) || among old s r))
+    → noted_at entries at ≡ stmts → ((reason : Reason) (s r : ℕ) → among_by new reason s r ≡ ((is_by by_data asker reason s && has r stmts) || among_by old reason s r))
     → ((l : Location) (a : ℕ) → count_at after l a ≡ (if locations.eq at l && (asker == a) then length stmts else count_at before l a))
     → AreCounted old entries before → AreCounted new entries after
 counted_all old new entries before after at asker stmts here asked noted right l a = by (locations.eq at l) refl (asker == a) refl (noted l a)
   where
     kept : Asked new a (count_at before l a) (noted_at entries l)
-    kept = ((right l a).0, λ r there. monotone ((asker == a) && has r stmts) (among old a r) (among new a r) (asked a r) ((right l a).1 r there))
+    kept = ((right l a).0, λ r there. monotone (is_by by_data asker by_data a && has r stmts) (among_by old by_data a r) (among_by new by_data a r) (asked by_data a r) ((right l a).1 r there))
 
     whole : (xs : List ℕ) → xs ≡ stmts → (asker == a) ≡ true → Asked new a (length stmts) xs
     whole xs is mine = (
       (let same : length stmts ≡ length xs = ap length (sym is) in omega (arith, same)),
-      λ r there. asked a r ∙ ap (λ b. (b && has r stmts) || among old a r) mine
-          ∙ ap (λ b. b || among old a r) (sym (ap (has r) (ap (take (length stmts)) is ∙ take-length stmts)) ∙ there),
+      λ r there. asked by_data a r ∙ ap (λ b. ((b && true) && has r stmts) || among_by old by_data a r) mine
+          ∙ ap (λ b. b || among_by old by_data a r) (sym (ap (has r) (ap (take (length stmts)) is ∙ take-length stmts)) ∙ there),
     )
 
     by : (p : Bool) → locations.eq at l ≡ p → (q : Bool) → (asker == a) ≡ q → count_at after l a ≡ (if p && q then length stmts else count_at before l a) → Asked new a (count_at after l a) (noted_at entries l)

@@ -7,6 +7,7 @@ pub mod KnownLaws
 pub mod Noted
 pub mod ReachLaws
 pub mod ReadLaws
+pub mod ReasonLaws
 pub mod StepLaws
 pub mod TestLaws
 pub mod WritersLaws

@@ -18,9 +18,9 @@ use Rattle.py_model.specs.declared.moment.How.{How}
 use Rattle.row_words.specs.Fits.{Each}
 use Rattle.row_checks.specs.NamedRows.{NamesAccess}
 use Rattle.slice_law.specs.Closed.{has}
-use Rattle.slice_law.specs.Edges.{edge, by_control, by_jump, from_option, reach_stmts, reads_ask, caller, is_abrupt, asks_for_jump, asks, run_asks}
+use Rattle.slice_law.specs.Edges.{Reason, by_data, edge, by_control, by_jump, from_option, reach_stmts, reads_ask, caller, is_abrupt, asks_for_jump, asks, run_asks}
 use Rattle.slice_edges.specs.declared.asking.Asking.{Asking}
-use Rattle.slice_edges.specs.Asks.{among, some_asks, is_jump}
+use Rattle.slice_edges.specs.Asks.{same_reason, is_by, among_by, some_ask_by, is_jump}
 use Rattle.slice_edges.specs.Binder.{AreBinders}
 use Rattle.slice_edges.specs.Counts.{AreCounted, IsRight}
 use Rattle.slice_edges.specs.Frames.{owner_in, caller_in, without_first}
@@ -38,11 +38,12 @@ module _ (view : ValuesView) (script : ScriptTree) (old new : Asking) (told : Li
   owner_known frames is = ap owner_in (is ∙ before.frames) ∙ sym (owner_is (frames_after told))
 
   -- the pairs, with those of the moment
-  asks_next : (moment : Moment) (here : ℕ → ℕ → Bool) → ((s r : ℕ) → some_asks (asks script moment told) s r ≡ here s r) → ((s r : ℕ) → among new.asks.keys s r ≡ (here s r || among old.asks.keys s r))
-      → (s r : ℕ) → among new.asks.keys s r ≡ some_asks (run_asks script (moment ∷ told)) s r
-  asks_next moment here is noted s r =
-      noted s r ∙ ap (λ b. b || among old.asks.keys s r) (sym (is s r)) ∙ ap (λ b. some_asks (asks script moment told) s r || b) (before.asks s r)
-      ∙ sym (asks_both (asks script moment told) (run_asks script told) s r)
+  asks_next : (moment : Moment) (here : Reason → ℕ → ℕ → Bool) → ((reason : Reason) (s r : ℕ) → some_ask_by (asks script moment told) reason s r ≡ here reason s r)
+      → ((reason : Reason) (s r : ℕ) → among_by new.asks.keys reason s r ≡ (here reason s r || among_by old.asks.keys reason s r))
+      → (reason : Reason) (s r : ℕ) → among_by new.asks.keys reason s r ≡ some_ask_by (run_asks script (moment ∷ told)) reason s r
+  asks_next moment here is noted reason s r =
+      noted reason s r ∙ ap (λ b. b || among_by old.asks.keys reason s r) (sym (is reason s r)) ∙ ap (λ b. some_ask_by (asks script moment told) reason s r || b) (before.asks reason s r)
+      ∙ sym (asks_both (asks script moment told) (run_asks script told) reason s r)
 
   -- a moment that reads and writes nothing
   quiet : (moment : Moment) → accesses_by moment ≡ [] → new.writers ≡ old.writers → (l : Location) → IsNamedLocation view l → (s : ℕ) → has s (noted_at new.writers.entries l) ≡ has s (reach_stmts (location_seen view l) (moment ∷ told))
@@ -59,80 +60,86 @@ module _ (view : ValuesView) (script : ScriptTree) (old new : Asking) (told : Li
       ∙ ap (λ accesses. (sets_at (location_seen view l) accesses || updates_at (location_seen view l) accesses) || is_filled (reach (location_seen view l) told)) none)
 
   -- what need not be sought again, where nothing is written
-  still_right : (here : ℕ → ℕ → Bool) → new.writers ≡ old.writers → new.memo ≡ old.memo → ((s r : ℕ) → among new.asks.keys s r ≡ (here s r || among old.asks.keys s r))
+  still_right : (here : Reason → ℕ → ℕ → Bool) → new.writers ≡ old.writers → new.memo ≡ old.memo
+      → ((reason : Reason) (s r : ℕ) → among_by new.asks.keys reason s r ≡ (here reason s r || among_by old.asks.keys reason s r))
       → IsRight script view.texts new.asks.keys new.writers.entries new.memo
   still_right here writers memo noted = record {
     binders = subst (λ known. AreBinders script view.texts known.binders.entries) (sym memo) before.right.binders;
     counted = subst (λ known. AreCounted new.asks.keys new.writers.entries known.counts.entries) (sym memo)
         (subst (λ known. AreCounted new.asks.keys known.entries old.memo.counts.entries) (sym writers)
-        (more_asked old.asks.keys new.asks.keys old.writers.entries old.memo.counts.entries (λ s r. monotone (here s r) (among old.asks.keys s r) (among new.asks.keys s r) (noted s r)) before.right.counted));
+        (more_asked old.asks.keys new.asks.keys old.writers.entries old.memo.counts.entries
+        (λ s r. monotone (here by_data s r) (among_by old.asks.keys by_data s r) (among_by new.asks.keys by_data s r) (noted by_data s r)) before.right.counted));
   }
 
   -- ---- a Begin
 
-  begin_asks : (number : ℕ) (found : Option Occurrence) (s r : ℕ)
-      → some_asks (elim found [ None ↦ [] | Some o ↦ edge by_control number o.stmt ∷ [] ]) s r ≡ ((number == s) && has r (from_option (option_map (λ (o : Occurrence). o.stmt) found)))
-  begin_asks number None s r = none (number == s)
+  begin_asks : (number : ℕ) (found : Option Occurrence) (reason : Reason) (s r : ℕ)
+      → some_ask_by (elim found [ None ↦ [] | Some o ↦ edge by_control number o.stmt ∷ [] ]) reason s r
+      ≡ (is_by by_control number reason s && has r (from_option (option_map (λ (o : Occurrence). o.stmt) found)))
+  begin_asks number None reason s r = none (is_by by_control number reason s)
     where
       none : (a : Bool) → false ≡ (a && false)
       none true = refl
       none false = refl
-  begin_asks number (Some o) s r = one (number == s) (o.stmt == r)
+  begin_asks number (Some o) reason s r = one (is_by by_control number reason s) (o.stmt == r)
     where
       one : (a b : Bool) → ((a && b) || false) ≡ (a && (b || false))
       one true b = refl
       one false b = refl
 
   pub begin_step : (number : ℕ) → new.frames ≡ a_statement number ∷ old.frames → new.writers ≡ old.writers → new.memo ≡ old.memo
-      → ((s r : ℕ) → among new.asks.keys s r ≡ (((number == s) && has r (from_option (caller_in old.frames))) || among old.asks.keys s r)) → HasAsked view script new (begins number ∷ told)
+      → ((reason : Reason) (s r : ℕ) → among_by new.asks.keys reason s r ≡ ((is_by by_control number reason s && has r (from_option (caller_in old.frames))) || among_by old.asks.keys reason s r))
+      → HasAsked view script new (begins number ∷ told)
   begin_step number frames writers memo noted = record {
-    right = still_right (λ s r. (number == s) && has r (from_option (caller_in old.frames))) writers memo noted;
+    right = still_right (λ reason s r. is_by by_control number reason s && has r (from_option (caller_in old.frames))) writers memo noted;
     frames = frames ∙ ap (λ open_ones. a_statement number ∷ open_ones) before.frames;
     reached = quiet_reached (begins number) refl writers;
     writers = quiet (begins number) refl writers;
-    asks = asks_next (begins number) (λ s r. (number == s) && has r (from_option (caller_in old.frames)))
-        (λ s r. begin_asks number (caller script (frames_after told)) s r
-        ∙ ap (λ found. (number == s) && has r (from_option found)) (caller_is script (frames_after told) ∙ ap caller_in (sym before.frames))) noted;
+    asks = asks_next (begins number) (λ reason s r. is_by by_control number reason s && has r (from_option (caller_in old.frames)))
+        (λ reason s r. begin_asks number (caller script (frames_after told)) reason s r
+        ∙ ap (λ found. is_by by_control number reason s && has r (from_option found)) (caller_is script (frames_after told) ∙ ap caller_in (sym before.frames))) noted;
   }
 
   -- ---- a Leave
 
   pub leave_step : (v : Contents) → new.frames ≡ without_first old.frames → new.writers ≡ old.writers → new.memo ≡ old.memo → new.asks ≡ old.asks → HasAsked view script new (leaves v ∷ told)
   leave_step v frames writers memo same = record {
-    right = still_right (λ s r. false) writers memo (λ s r. ap (λ known. among known.keys s r) same);
+    right = still_right (λ reason s r. false) writers memo (λ reason s r. ap (λ known. among_by known.keys reason s r) same);
     frames = frames ∙ ap without_first before.frames ∙ sym (closed_is (frames_after told));
     reached = quiet_reached (leaves v) refl writers;
     writers = quiet (leaves v) refl writers;
-    asks = λ s r. ap (λ known. among known.keys s r) same ∙ before.asks s r;
+    asks = λ reason s r. ap (λ known. among_by known.keys reason s r) same ∙ before.asks reason s r;
   }
 
   -- ---- an End
 
-  jump_asks : (number : ℕ) (abrupt : Bool) (found : Option Occurrence) (s r : ℕ)
-      → some_asks (if abrupt then elim found [ None ↦ [] | Some o ↦ edge by_jump o.stmt number ∷ [] ] else []) s r
-      ≡ (abrupt && (has s (from_option (option_map (λ (o : Occurrence). o.stmt) found)) && (number == r)))
-  jump_asks number false found s r = refl
-  jump_asks number true None s r = refl
-  jump_asks number true (Some o) s r = one (o.stmt == s) (number == r)
+  jump_asks : (number : ℕ) (abrupt : Bool) (found : Option Occurrence) (reason : Reason) (s r : ℕ)
+      → some_ask_by (if abrupt then elim found [ None ↦ [] | Some o ↦ edge by_jump o.stmt number ∷ [] ] else []) reason s r
+      ≡ (abrupt && ((has s (from_option (option_map (λ (o : Occurrence). o.stmt) found)) && same_reason by_jump reason) && (number == r)))
+  jump_asks number false found reason s r = refl
+  jump_asks number true None reason s r = refl
+  jump_asks number true (Some o) reason s r = one (o.stmt == s) (same_reason by_jump reason) (number == r)
     where
-      one : (a b : Bool) → ((a && b) || false) ≡ ((a || false) && b)
-      one true true = refl
-      one true false = refl
-      one false b = refl
+      one : (a m b : Bool) → (((a && m) && b) || false) ≡ (((a || false) && m) && b)
+      one true true true = refl
+      one true true false = refl
+      one true false b = refl
+      one false m b = refl
 
   pub end_step : (number : ℕ) (how : How) → number ≡ unwrap_or (owner_in old.frames) 0 → new.frames ≡ without_first old.frames → new.writers ≡ old.writers → new.memo ≡ old.memo
-      → ((s r : ℕ) → among new.asks.keys s r ≡ ((is_jump how && (has s (from_option (owner_in new.frames)) && (number == r))) || among old.asks.keys s r))
+      → ((reason : Reason) (s r : ℕ) → among_by new.asks.keys reason s r
+      ≡ ((is_jump how && ((has s (from_option (owner_in new.frames)) && same_reason by_jump reason) && (number == r))) || among_by old.asks.keys reason s r))
       → HasAsked view script new (ends (unwrap_or (owner_stmt told) 0) (how_seen how) ∷ told)
   end_step number how is frames writers memo noted = subst (λ n. HasAsked view script new (ends n (how_seen how) ∷ told)) (is ∙ ap (λ found. unwrap_or found 0) (owner_known old.frames refl)) (record {
-    right = still_right (λ s r. is_jump how && (has s (from_option (owner_in new.frames)) && (number == r))) writers memo noted;
+    right = still_right (λ reason s r. is_jump how && ((has s (from_option (owner_in new.frames)) && same_reason by_jump reason) && (number == r))) writers memo noted;
     frames = closing;
     reached = quiet_reached (ends number (how_seen how)) refl writers;
     writers = quiet (ends number (how_seen how)) refl writers;
-    asks = asks_next (ends number (how_seen how)) (λ s r. is_jump how && (has s (from_option (owner_in new.frames)) && (number == r)))
-        (λ s r. jump_asks number (is_abrupt script (how_seen how)) (asks_for_jump script (without_top (frames_after told))) s r
-        ∙ ap (λ found. is_abrupt script (how_seen how) && (has s (from_option found) && (number == r)))
+    asks = asks_next (ends number (how_seen how)) (λ reason s r. is_jump how && ((has s (from_option (owner_in new.frames)) && same_reason by_jump reason) && (number == r)))
+        (λ reason s r. jump_asks number (is_abrupt script (how_seen how)) (asks_for_jump script (without_top (frames_after told))) reason s r
+        ∙ ap (λ found. is_abrupt script (how_seen how) && ((has s (from_option found) && same_reason by_jump reason) && (number == r)))
         (ap (option_map (λ (o : Occurrence). o.stmt)) (jump_is script (without_top (frames_after told))) ∙ owner_is (without_top (frames_after told)) ∙ ap owner_in (sym closing))
-        ∙ ap (λ abrupt. abrupt && (has s (from_option (owner_in new.frames)) && (number == r))) (abrupt_is script how)) noted;
+        ∙ ap (λ abrupt. abrupt && ((has s (from_option (owner_in new.frames)) && same_reason by_jump reason) && (number == r))) (abrupt_is script how)) noted;
   })
     where
       closing : new.frames ≡ map open_of (without_top (frames_after told))
@@ -141,10 +148,11 @@ module _ (view : ValuesView) (script : ScriptTree) (old new : Asking) (told : Li
   -- ---- a Do
 
   module _ (interned : AreInterned view) (accesses : List Access) (each : Each (NamesAccess view) accesses) where
-    owner_asked : (owner : Option ℕ) (s r : ℕ)
-        → some_asks (elim owner [ None ↦ [] | Some asker ↦ reads_ask script asker (map (access_seen view) accesses) told ]) s r ≡ owner_reads script view.texts old.writers.entries owner accesses s r
-    owner_asked None s r = refl
-    owner_asked (Some asker) s r = reads_asked view script asker old.writers.entries told before.reached before.writers accesses each s r
+    owner_asked : (owner : Option ℕ) (reason : Reason) (s r : ℕ)
+        → some_ask_by (elim owner [ None ↦ [] | Some asker ↦ reads_ask script asker (map (access_seen view) accesses) told ]) reason s r
+        ≡ owner_reads script view.texts old.writers.entries owner accesses reason s r
+    owner_asked None reason s r = refl
+    owner_asked (Some asker) reason s r = reads_asked view script asker old.writers.entries told before.reached before.writers accesses each reason s r
 
     abbrev IsWritten : Type 0
     IsWritten = (l : Location) → found_at new.writers.entries l ≡ after_change (updates_in l accesses) (owner_in old.frames) (after_set (sets_in l accesses) (owner_in old.frames) (found_at old.writers.entries l))
@@ -181,15 +189,15 @@ module _ (view : ValuesView) (script : ScriptTree) (old new : Asking) (told : Li
 
     pub do_step : (at : Pos) (op : ℕ) (values : List Contents) (answer : Answer) (made : Option SeenKind) (weight : ℕ) → new.frames ≡ old.frames → IsRight script view.texts new.asks.keys new.writers.entries new.memo
         → IsWritten
-        → ((s r : ℕ) → among new.asks.keys s r ≡ (owner_reads script view.texts old.writers.entries (owner_in old.frames) accesses s r || among old.asks.keys s r))
+        → ((reason : Reason) (s r : ℕ) → among_by new.asks.keys reason s r ≡ (owner_reads script view.texts old.writers.entries (owner_in old.frames) accesses reason s r || among_by old.asks.keys reason s r))
         → HasAsked view script new (does at op values answer made (map (access_seen view) accesses) weight ∷ told)
     do_step at op values answer made weight frames right noted asked = record {
       right = right;
       frames = frames ∙ before.frames;
       reached = reached_next (does at op values answer made (map (access_seen view) accesses) weight) refl noted;
       writers = writes_next (does at op values answer made (map (access_seen view) accesses) weight) refl noted;
-      asks = asks_next (does at op values answer made (map (access_seen view) accesses) weight) (λ s r. owner_reads script view.texts old.writers.entries (owner_in old.frames) accesses s r)
-          (λ s r. owner_asked (owner_stmt told) s r ∙ ap (λ owner. owner_reads script view.texts old.writers.entries owner accesses s r) (sym (owner_known old.frames refl))) asked;
+      asks = asks_next (does at op values answer made (map (access_seen view) accesses) weight) (λ reason s r. owner_reads script view.texts old.writers.entries (owner_in old.frames) accesses reason s r)
+          (λ reason s r. owner_asked (owner_stmt told) reason s r ∙ ap (λ owner. owner_reads script view.texts old.writers.entries owner accesses reason s r) (sym (owner_known old.frames refl))) asked;
     }
 
 -- ---- an Enter sees what a Do of its accesses sees, and is open
@@ -208,5 +216,5 @@ module _ (view : ValuesView) (script : ScriptTree) (mid new : Asking) (told : Li
     writers = λ l named s. ap (λ known. has s (noted_at known.entries l)) writers ∙ done.writers l named s
         ∙ reach_next (location_seen view l) (does at op others answer made accesses weight) told s
         ∙ sym (reach_next (location_seen view l) (enters call def values accesses) told s);
-    asks = λ s r. ap (λ known. among known.keys s r) same ∙ done.asks s r;
+    asks = λ reason s r. ap (λ known. among_by known.keys reason s r) same ∙ done.asks reason s r;
   }

@@ -16,12 +16,11 @@ ghost use Rattle.std.specs.Prelude.{Option};
 ghost use Rattle.row_words.specs.Fits.{Each};
 ghost use Rattle.row_checks.specs.NamedRows.{NamesAccess, NamesRow};
 ghost use Rattle.slice_law.specs.Closed.{has, IsIn};
-ghost use Rattle.slice_law.specs.Edges.{reach_stmts, run_asks};
-ghost use Rattle.slice_edges.specs.Asks.{among, some_asks};
+ghost use Rattle.slice_law.specs.Edges.{Reason, reach_stmts, run_asks};
+ghost use Rattle.slice_edges.specs.Asks.{among, among_by, some_ask_by, some_asks};
 ghost use Rattle.slice_edges.specs.HasAsked.{HasAsked};
 ghost use Rattle.row_moments.specs.Moments.{told_with};
 
-use crate::Ask;
 use crate::ask::{ask_for, ask_jump};
 use crate::counts::forget;
 use crate::frames::Frames;
@@ -29,6 +28,7 @@ use crate::memo::Memo;
 use crate::reads::ask_owner;
 use crate::stmts::Stmts;
 use crate::writers::{note, writers_at};
+use crate::{Ask, Why};
 use indexmap::{IndexMap, IndexSet};
 use prov_base::Memory;
 use py_model::How;
@@ -37,7 +37,7 @@ use py_value::{Access, Location};
 use std::alloc::Global;
 use trace_rows::Row;
 
-/// What is known after rows: what is open, the statements of the reach of each location, which statement asks for which,
+/// What is known after rows: what is open, the statements of the reach of each location, which statement asks for which and why,
 /// and what need not be sought or asked for again.
 #[derive(Drop)]
 pub struct Asking {
@@ -115,7 +115,7 @@ impl Asking {
             → OnOk result (HasAsked view script self.new (begins stmt ∷ told)) }
     {
         let caller = self.frames.caller();
-        ask_for(&mut self.asks, stmt, caller)?;
+        ask_for(&mut self.asks, Why::Control, stmt, caller)?;
         self.frames.begin(stmt)
     }
 
@@ -197,10 +197,12 @@ impl Asking {
         self.writers.keys().as_slice()
     }
 
-    /// Which statement asks for which, each pair once.
+    /// Which statement asks for which, and why, each once.
     pub fn edges(&self) -> &[Ask]
         ensures asked { (view : ValuesView) (script : ScriptTree) (told : List Moment) → HasAsked view script self.now told
             → (s r : ℕ) → among result.now s r ≡ some_asks (run_asks script told) s r }
+        ensures reasons { (view : ValuesView) (script : ScriptTree) (told : List Moment) → HasAsked view script self.now told
+            → (reason : Reason) (s r : ℕ) → among_by result.now reason s r ≡ some_ask_by (run_asks script told) reason s r }
         ensures once { StandOnce result.now }
     {
         self.asks.as_slice()

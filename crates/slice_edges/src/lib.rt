@@ -1,8 +1,8 @@
-//! Which statement asks for which in the rows of a trial: one pass over the rows, in order (dynamic slices, Korel and Laski 1988, in this
+//! Which statement asks for which, and why, in the rows of a trial: one pass over the rows, in order (dynamic slices, Korel and Laski 1988, in this
 //! project's profile).
 //!
 //! `specs/HasAsked.antt` says what is known after rows: what is open, the statements of the reach of each location, and which pairs of
-//! statements the edges of the moments so far have. Edges from a statement to the one that has it in its suite are not among these: they
+//! statements the edges of the moments so far have, with their reasons. Edges from a statement to the one that has it in its suite are not among these: they
 //! are the same for each trial of a script.
 //!
 //! - [`Asking::pass`]: what is known before a row becomes what is known after it, wherever the row's texts and tuples are found in a table
@@ -27,6 +27,6 @@ mod reads;
 mod stmts;
 mod writers;
 
-pub use ask::Ask;
+pub use ask::{Ask, Why};
 pub use asking::Asking;
 pub use laws::known_pairs_are_edges;

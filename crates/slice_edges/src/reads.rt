@@ -1,21 +1,22 @@
-// Which statements the reads of a row ask for.
+// Which statements the reads of a row ask for, and why.
 ghost use Rattle.std.specs.Prelude.{◌≡◌, ◌≤◌, ◌==◌, ◌&&◌, ◌||◌, ℕ, List, drop, length, map, OnOk};
 ghost use Rattle.py_tree.specs.Erasure.{script_of};
 ghost use Rattle.py_tree.specs.Numbering.{IsNumbered};
 ghost use Rattle.py_value.specs.declared.access.Location.{Location as OneLocation};
 ghost use Rattle.slice_law.specs.Closed.{has};
-ghost use Rattle.slice_edges.specs.Asks.{among};
+ghost use Rattle.slice_law.specs.Edges.{Reason, by_data, by_name};
+ghost use Rattle.slice_edges.specs.Asks.{among_by, is_by};
 ghost use Rattle.slice_edges.specs.Binder.{AreBinders};
 ghost use Rattle.slice_edges.specs.Counts.{AreCounted, IsRight};
 ghost use Rattle.slice_edges.specs.Reading.{local_name as local_name_of, binder_for, stmts_or, read_stmts, is_read, owner_reads};
 ghost use Rattle.slice_edges.specs.Writers.{found_at, noted_at};
 
-use crate::Ask;
 use crate::ask::{ask_each, ask_for};
 use crate::binder::{Local, binder_of};
 use crate::counts::{Counts, count_of, note_count};
 use crate::memo::Memo;
 use crate::stmts::Stmts;
+use crate::{Ask, Why};
 use indexmap::{IndexMap, IndexSet};
 use prov_base::Memory;
 use py_tree::Script;
@@ -53,8 +54,8 @@ fn ask_binder(
     name: Option<u32>,
 ) -> Result<(), Memory>
     requires { IsNumbered (script_of script.now) }
-    ensures asked { OnOk result (AreBinders (script_of script.now) (map (λ k. k.now) names.now) binders.old.entries → (s r : ℕ) → among asks.new.keys s r
-        ≡ (((asker == s) && has r (binder_for (script_of script.now) (map (λ k. k.now) names.now) asker name)) || among asks.old.keys s r)) }
+    ensures asked { OnOk result (AreBinders (script_of script.now) (map (λ k. k.now) names.now) binders.old.entries → (reason : Reason) (s r : ℕ) → among_by asks.new.keys reason s r
+        ≡ ((is_by by_name asker reason s && has r (binder_for (script_of script.now) (map (λ k. k.now) names.now) asker name)) || among_by asks.old.keys reason s r)) }
     ensures kept { OnOk result (AreBinders (script_of script.now) (map (λ k. k.now) names.now) binders.old.entries
         → AreBinders (script_of script.now) (map (λ k. k.now) names.now) binders.new.entries) }
 {
@@ -62,7 +63,7 @@ fn ask_binder(
         return Ok(());
     };
     let binder = binder_of(binders, script, names, asker, name)?;
-    ask_for(asks, asker, binder)
+    ask_for(asks, Why::Name, asker, binder)
 }
 
 // The numbers behind the first so many.
@@ -86,14 +87,19 @@ fn ask_noted(
     stmts: &[u32],
 ) -> Result<(), Memory>
     ensures asked { OnOk result ((entries : List (OneLocation × List ℕ)) → AreCounted asks.old.keys entries counts.old.entries → noted_at entries at ≡ stmts.now
-        → (s r : ℕ) → among asks.new.keys s r ≡ (((asker == s) && has r stmts.now) || among asks.old.keys s r)) }
+        → (reason : Reason) (s r : ℕ) → among_by asks.new.keys reason s r ≡ ((is_by by_data asker reason s && has r stmts.now) || among_by asks.old.keys reason s r)) }
     ensures kept { OnOk result ((entries : List (OneLocation × List ℕ)) → AreCounted asks.old.keys entries counts.old.entries → noted_at entries at ≡ stmts.now
         → AreCounted asks.new.keys entries counts.new.entries) }
 {
     if stmts.len() <= FEW {
-        return ask_each(asks, asker, stmts);
+        return ask_each(asks, Why::Data, asker, stmts);
     }
-    ask_each(asks, asker, behind(stmts, count_of(counts, &at, asker)))?;
+    ask_each(
+        asks,
+        Why::Data,
+        asker,
+        behind(stmts, count_of(counts, &at, asker)),
+    )?;
     note_count(alloc, counts, at, asker, stmts.len())
 }
 
@@ -109,8 +115,8 @@ fn ask_location(
     at: &Location,
 ) -> Result<(), Memory>
     requires { IsNumbered (script_of script.now) }
-    ensures asked { OnOk result (IsRight (script_of script.now) (map (λ k. k.now) names.now) asks.old.keys writers.now.entries memo.old → (s r : ℕ) → among asks.new.keys s r
-        ≡ (((asker == s) && has r (stmts_or (script_of script.now) (map (λ k. k.now) names.now) asker at.now (found_at writers.now.entries at.now))) || among asks.old.keys s r)) }
+    ensures asked { OnOk result (IsRight (script_of script.now) (map (λ k. k.now) names.now) asks.old.keys writers.now.entries memo.old → (reason : Reason) (s r : ℕ) → among_by asks.new.keys reason s r
+        ≡ (((asker == s) && has r (stmts_or (script_of script.now) (map (λ k. k.now) names.now) asker reason at.now (found_at writers.now.entries at.now))) || among_by asks.old.keys reason s r)) }
     ensures kept { OnOk result (IsRight (script_of script.now) (map (λ k. k.now) names.now) asks.old.keys writers.now.entries memo.old
         → IsRight (script_of script.now) (map (λ k. k.now) names.now) asks.new.keys writers.now.entries memo.new) }
 {
@@ -139,8 +145,8 @@ fn ask_access(
     access: &Access,
 ) -> Result<(), Memory>
     requires { IsNumbered (script_of script.now) }
-    ensures asked { OnOk result (IsRight (script_of script.now) (map (λ k. k.now) names.now) asks.old.keys writers.now.entries memo.old → (s r : ℕ) → among asks.new.keys s r
-        ≡ (((asker == s) && has r (read_stmts (script_of script.now) (map (λ k. k.now) names.now) asker writers.now.entries access.now)) || among asks.old.keys s r)) }
+    ensures asked { OnOk result (IsRight (script_of script.now) (map (λ k. k.now) names.now) asks.old.keys writers.now.entries memo.old → (reason : Reason) (s r : ℕ) → among_by asks.new.keys reason s r
+        ≡ (((asker == s) && has r (read_stmts (script_of script.now) (map (λ k. k.now) names.now) asker writers.now.entries reason access.now)) || among_by asks.old.keys reason s r)) }
     ensures kept { OnOk result (IsRight (script_of script.now) (map (λ k. k.now) names.now) asks.old.keys writers.now.entries memo.old
         → IsRight (script_of script.now) (map (λ k. k.now) names.now) asks.new.keys writers.now.entries memo.new) }
 {
@@ -162,8 +168,8 @@ pub(crate) fn ask_reads(
     accesses: &[Access],
 ) -> Result<(), Memory>
     requires { IsNumbered (script_of script.now) }
-    ensures asked { OnOk result (IsRight (script_of script.now) (map (λ k. k.now) names.now) asks.old.keys writers.now.entries memo.old → (s r : ℕ) → among asks.new.keys s r
-        ≡ (((asker == s) && is_read (script_of script.now) (map (λ k. k.now) names.now) asker writers.now.entries r accesses.now) || among asks.old.keys s r)) }
+    ensures asked { OnOk result (IsRight (script_of script.now) (map (λ k. k.now) names.now) asks.old.keys writers.now.entries memo.old → (reason : Reason) (s r : ℕ) → among_by asks.new.keys reason s r
+        ≡ (((asker == s) && is_read (script_of script.now) (map (λ k. k.now) names.now) asker writers.now.entries reason r accesses.now) || among_by asks.old.keys reason s r)) }
     ensures kept { OnOk result (IsRight (script_of script.now) (map (λ k. k.now) names.now) asks.old.keys writers.now.entries memo.old
         → IsRight (script_of script.now) (map (λ k. k.now) names.now) asks.new.keys writers.now.entries memo.new) }
 {
@@ -185,8 +191,8 @@ pub(crate) fn ask_owner(
     accesses: &[Access],
 ) -> Result<(), Memory>
     requires { IsNumbered (script_of script.now) }
-    ensures asked { OnOk result (IsRight (script_of script.now) (map (λ k. k.now) names.now) asks.old.keys writers.now.entries memo.old → (s r : ℕ) → among asks.new.keys s r
-        ≡ (owner_reads (script_of script.now) (map (λ k. k.now) names.now) writers.now.entries owner accesses.now s r || among asks.old.keys s r)) }
+    ensures asked { OnOk result (IsRight (script_of script.now) (map (λ k. k.now) names.now) asks.old.keys writers.now.entries memo.old → (reason : Reason) (s r : ℕ) → among_by asks.new.keys reason s r
+        ≡ (owner_reads (script_of script.now) (map (λ k. k.now) names.now) writers.now.entries owner accesses.now reason s r || among_by asks.old.keys reason s r)) }
     ensures kept { OnOk result (IsRight (script_of script.now) (map (λ k. k.now) names.now) asks.old.keys writers.now.entries memo.old
         → IsRight (script_of script.now) (map (λ k. k.now) names.now) asks.new.keys writers.now.entries memo.new) }
 {

@@ -1,7 +1,7 @@
 use Rattle.std.proofs.Common.{◌≡◌, ◌==◌, ◌&&◌, ◌||◌, ◌+◌, drop, map, subst}
 use Rattle.py_tree.specs.Erasure.{script_of}
 use Rattle.slice_law.specs.Closed.{has}
-use Rattle.slice_edges.specs.Asks.{among}
+use Rattle.slice_edges.specs.Asks.{among_by}
 use Rattle.slice_edges.specs.Reading.{read_stmts, is_read}
 use Rattle.slice_edges.proofs.AskLaws.{read_turn}
 use Rattle.slice_edges.proofs.WritersLaws.{next_is}
@@ -19,10 +19,10 @@ loop-access-preserved c =
     let inv = c.loop-access.invariant in
     let done = c.in_ok-ask_access.ensures in (
       λ known. done.kept (inv.0 known),
-      λ known s r.
-          read_turn (asker == s) (has r (read_stmts script texts asker entries item)) (is_read script texts asker entries r (drop (i + 1) items)) (is_read script texts asker entries r items)
-          (among c.args.asks.now.keys s r) (among c.loop-access.asks.keys s r) (among c.ask_access.new.asks.keys s r)
-          (subst (λ left. (((asker == s) && is_read script texts asker entries r left) || among c.loop-access.asks.keys s r) ≡ (((asker == s) && is_read script texts asker entries r items) || among c.args.asks.now.keys s r))
-          (next_is items i item c.loop-access-test.true c.access-item.is) (inv.1 known s r))
-          (done.asked (inv.0 known) s r),
+      λ known reason s r.
+          read_turn (asker == s) (has r (read_stmts script texts asker entries reason item)) (is_read script texts asker entries reason r (drop (i + 1) items)) (is_read script texts asker entries reason r items)
+          (among_by c.args.asks.now.keys reason s r) (among_by c.loop-access.asks.keys reason s r) (among_by c.ask_access.new.asks.keys reason s r)
+          (subst (λ left. (((asker == s) && is_read script texts asker entries reason r left) || among_by c.loop-access.asks.keys reason s r) ≡ (((asker == s) && is_read script texts asker entries reason r items) || among_by c.args.asks.now.keys reason s r))
+          (next_is items i item c.loop-access-test.true c.access-item.is) (inv.1 known reason s r))
+          (done.asked (inv.0 known) reason s r),
     )

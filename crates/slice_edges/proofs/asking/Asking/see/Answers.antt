@@ -1,6 +1,6 @@
 use Rattle.std.proofs.Common.{◌||◌, refl, sym, ap, subst, ◌∙◌}
 use Rattle.py_tree.specs.Erasure.{script_of}
-use Rattle.slice_edges.specs.Asks.{among}
+use Rattle.slice_edges.specs.Asks.{among_by}
 use Rattle.slice_edges.specs.Counts.{IsRight}
 use Rattle.slice_edges.specs.Reading.{owner_reads}
 use Rattle.slice_edges.specs.Writers.{found_at, after_set, after_change, sets_in, updates_in}
@@ -26,6 +26,6 @@ returns c = λ view told interned each texts before.
       counted = counted_still asks.keys old.writers.entries c.note.new.writers.entries memo.counts.entries c.forget.new.counts.entries accesses c.owner-owner.result noted c.forget.ensures known.counted;
     })
     (λ l. noted l ∙ ap (λ owner. after_change (updates_in l accesses) owner (after_set (sets_in l accesses) owner (found_at old.writers.entries l))) c.owner-owner.ensures)
-    (λ s r. c.in_ok-ask_owner.ensures.asked right s r
-    ∙ ap (λ these. owner_reads script these old.writers.entries c.owner-owner.result accesses s r || among old.asks.keys s r) (sym texts)
-    ∙ ap (λ owner. owner_reads script view.texts old.writers.entries owner accesses s r || among old.asks.keys s r) c.owner-owner.ensures))
+    (λ reason s r. c.in_ok-ask_owner.ensures.asked right reason s r
+    ∙ ap (λ these. owner_reads script these old.writers.entries c.owner-owner.result accesses reason s r || among_by old.asks.keys reason s r) (sym texts)
+    ∙ ap (λ owner. owner_reads script view.texts old.writers.entries owner accesses reason s r || among_by old.asks.keys reason s r) c.owner-owner.ensures))

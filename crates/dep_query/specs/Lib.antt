@@ -1,0 +1,4 @@
+pub mod Dataflows
+pub mod Dependences
+pub mod Lines
+pub mod Noting

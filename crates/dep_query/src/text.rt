@@ -1,0 +1,44 @@
+// The text of `dataflow`.
+ghost use Rattle.std.specs.Prelude.{◌≡◌, IfErr, IfSome};
+ghost use Rattle.prov_outside.specs.Tells.{Tells};
+ghost use Rattle.keeper.specs.Keeping.{AreKept, LeavesAmong};
+ghost use Rattle.trial_slice.specs.Fault.{has_failed, IsOfQuestion};
+ghost use Rattle.trial_slice.specs.Questions.{AnswersSome, AnswersTrial};
+ghost use Rattle.trial_tables.specs.Causes.{Causes};
+ghost use Rattle.dep_query.specs.Dataflows.{IsDataflow, LacksDataflow};
+
+use crate::answering::dataflow;
+use keeper::Keeper;
+use prov_base::Bytes;
+use std::alloc::Global;
+use trial_keeping::TrialFault;
+use trial_loading::{drop_trial, load_trial};
+use trial_slice::EvaluationFault;
+
+/// The text of the command `dataflow`: the dependences between the statements of the trial with this number, as lines. The fault of the trial is that of its loading:
+/// `NoTrial` exactly where there is none, `Damaged` exactly where it is not well kept, with what is amiss first. `NoEvaluation` never comes.
+pub fn dataflow_text<K: Keeper>(
+    alloc: Global,
+    keeper: &mut K,
+    number: u32,
+) -> Result<Bytes, EvaluationFault>
+    ensures answers { Tells (K.told keeper.old) (K.told keeper.new) (AnswersTrial IsDataflow LacksDataflow number result) }
+    // also over a keeper that tells nothing
+    ensures of_trial { AnswersSome IsDataflow LacksDataflow number result }
+    ensures of_question { IfErr result (IsOfQuestion number) }
+    ensures kept { IfSome (K.told keeper.new) (AreKept (K.is_open keeper.new)) }
+    ensures stops { Tells (K.told keeper.old) (K.told keeper.new) (λ _ _. LeavesAmong (K.may_leave keeper.old) (K.may_leave keeper.new)) }
+    ensures batch { K.is_open keeper.new ≡ K.is_open keeper.old }
+    ensures cause { Causes (has_failed result) (K.faults keeper.old) (K.faults keeper.new) }
+{
+    let trial = match load_trial(alloc, keeper, number) {
+        Ok(trial) => trial,
+        Err(fault) => return Err(EvaluationFault::Trial(fault)),
+    };
+    let text = dataflow(alloc, &trial);
+    drop_trial(trial);
+    match text {
+        Ok(text) => Ok(text),
+        Err(_) => Err(EvaluationFault::Trial(TrialFault::Memory)),
+    }
+}
