@@ -9,7 +9,7 @@ use Rattle.prov_base.specs.Path.{is_path}
 use Rattle.now_words.specs.Command.{Command, run_bare, run_kept, reads, command_of}
 use Rattle.now_words.specs.declared.command.Evaluation.{Evaluation}
 use Rattle.now_words.specs.declared.command.Query.{Query}
-use Rattle.now_words.specs.declared.command.Query.TheVariants.{List as list_query, History, Show, Slice, Value, Replay}
+use Rattle.now_words.specs.declared.command.Query.TheVariants.{List as list_query, History, Show, Dataflow, Slice, Value, Replay}
 use Rattle.delivery.specs.Ending.{Ending, done, uncaught, usage, refused, nothing_there, console_failed, folder_failed, store_failed, out_of_memory, out_of_steps, not_reached, collision, store_full, damaged_trial, status_of, closing_line, tells_of_store}
 use Rattle.delivery.specs.Ends.{Ends, as_planned, by_console as by_planned_console, by_folder as by_planned_folder, no_memory as lacked_memory, GetsPrefixes}
 use Rattle.delivery.specs.PutsAll.{OutFile}
@@ -29,6 +29,7 @@ use Rattle.trial_loading.specs.Loading.{IsLoaded}
 use Rattle.trial_loading.specs.declared.trial.Trial.{Trial}
 use Rattle.trial_slice.specs.Questions.{HasAnswer}
 use Rattle.trial_slice.specs.Slices.{HasSlice}
+use Rattle.dep_query.specs.Dataflows.{IsDataflow}
 use Rattle.trial_replay.specs.Replays.{IsReplayAt}
 use Rattle.trial_replay.specs.declared.replaying.Replayed.{Replayed}
 use Rattle.trial_replay.specs.declared.replaying.Replayed.TheVariants.{Lines, NotReached}
@@ -43,7 +44,7 @@ use Rattle.now_top.specs.Unkept.{with_keeping}
 use Rattle.now_top.specs.Means.{MeansCommand, file_of}
 use Rattle.now_top.specs.Replies.{Comes, meant, unread, store_unread, untold, no_memory as lacks_memory, Prepares, Replies}
 use Rattle.now_top.specs.Seen.{Seen, told_by}
-use Rattle.now_top.specs.Reply.{RepliesOf, well_kept, not_there, amiss, Slices, sliced, unevaluated, Answered, answered, unanswered, telling, ValuesOf, replaying, ReplaysOf, Reply}
+use Rattle.now_top.specs.Reply.{RepliesOf, well_kept, not_there, amiss, Slices, sliced, unevaluated, Answered, answered, unanswered, telling, DataflowOf, ValuesOf, replaying, ReplaysOf, Reply}
 use Rattle.now_top.specs.World.{World, Plan, closing}
 
 -- what is told goes through what is told between
@@ -219,6 +220,7 @@ reply_is_fine : (query : Query) (tables : TablesView) (plan : Plan) → Reply qu
 reply_is_fine list_query tables plan is = ap (λ (p : Plan). tells_of_store p.ending) is
 reply_is_fine History tables plan is = ap (λ (p : Plan). tells_of_store p.ending) is
 reply_is_fine (Show number) tables plan is = answer_is_fine _ (λ trial shown so. ap (λ (p : Plan). tells_of_store p.ending) so) tables number plan is
+reply_is_fine (Dataflow number) tables plan is = answer_is_fine DataflowOf (question_is_fine telling (λ text. refl) _ _) tables number plan is
 reply_is_fine (Slice of) tables plan is = answer_is_fine (Slices of.at of.k) (slice_is_fine of) tables of.trial plan is
 reply_is_fine (Value of) tables plan is = answer_is_fine (ValuesOf of) (question_is_fine telling (λ text. refl) _ _) tables of.trial plan is
 reply_is_fine (Replay of) tables plan is = answer_is_fine (ReplaysOf of) (question_is_fine replaying replay_is_fine _ _) tables of.trial plan is
@@ -239,6 +241,10 @@ pub reply_answers : (comes : Trial → Plan → Type 0) (answers : Trial → Lis
 reply_answers comes answers of tables number plan (well_kept trial loaded _ is) done_so = record { trial = trial; loaded = loaded; answer = of trial plan is done_so }
 reply_answers comes answers of tables number plan (not_there none) done_so = absurd (cc)
 reply_answers comes answers of tables number plan (amiss damage is) done_so = absurd (cc)
+
+pub flow_done : (trial : Trial) (plan : Plan) → DataflowOf trial plan → plan.ending ≡ done → IsDataflow trial plan.text
+flow_done trial plan (answered text is) done_so = is
+flow_done trial plan (unanswered so) done_so = absurd (cc)
 
 pub value_done : (of : Evaluation) (trial : Trial) (plan : Plan) → ValuesOf of trial plan → plan.ending ≡ done → IsValueAt of.at of.k trial plan.text
 value_done of trial plan (answered text is) done_so = is

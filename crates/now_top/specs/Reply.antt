@@ -2,7 +2,8 @@
 use Rattle.std.specs.Prelude.{◌≡◌, ℕ, Bool, List, [], ◌++◌, None}
 use Rattle.now_words.specs.declared.command.Evaluation.{Evaluation}
 use Rattle.now_words.specs.declared.command.Query.{Query}
-use Rattle.now_words.specs.declared.command.Query.TheVariants.{List as list_query, History, Show, Slice, Value, Replay}
+use Rattle.now_words.specs.declared.command.Query.TheVariants.{List as list_query, History, Show, Dataflow, Slice, Value, Replay}
+use Rattle.dep_query.specs.Dataflows.{IsDataflow, LacksDataflow}
 use Rattle.delivery.specs.Ending.{done, nothing_there, not_reached, damaged_trial}
 use Rattle.keeper.specs.declared.records.Head.{Head}
 use Rattle.keeper.specs.Tables.{TablesView, head_at}
@@ -52,6 +53,10 @@ pub data Answered {T : Type 0} (tells : T → Plan) (answers : Trial → T → T
   answered : (it : T) → answers trial it → Answered tells answers lacks trial (tells it)
   unanswered : lacks trial → Answered tells answers lacks trial (closing nothing_there)
 
+-- `dataflow`: the dependences between the trial's statements
+abbrev pub DataflowOf : Trial → Plan → Type 0
+DataflowOf = Answered telling IsDataflow LacksDataflow
+
 -- `value`: the two lines of the value of the evaluation
 abbrev pub ValuesOf : Evaluation → Trial → Plan → Type 0
 ValuesOf of = Answered telling (IsValueAt of.at of.k) (LacksEvaluation of.at of.k)
@@ -70,6 +75,7 @@ abbrev pub Reply : Query → TablesView → Plan → Type 0
 Reply list_query tables plan = plan ≡ telling (list_bytes tables.heads)
 Reply History tables plan = plan ≡ telling (history_bytes tables)
 Reply (Show number) tables plan = RepliesOf ShowsLines tables number plan
+Reply (Dataflow number) tables plan = RepliesOf DataflowOf tables number plan
 Reply (Slice of) tables plan = RepliesOf (Slices of.at of.k) tables of.trial plan
 Reply (Value of) tables plan = RepliesOf (ValuesOf of) tables of.trial plan
 Reply (Replay of) tables plan = RepliesOf (ReplaysOf of) tables of.trial plan
@@ -87,11 +93,12 @@ pub record TellsSomeHistory (plan : Plan) : Type 0 where
   pub lines : AreSomeLines text
   pub plan_is : plan ≡ telling text
 
--- To `list` it is the lines of some heads; to `history` those of some heads with some marks; to `show` the lines of such a trial; to `slice`, `value` and `replay` the slice, the value and the replay of the evaluation in it.
+-- To `list` it is the lines of some heads; to `history` those of some heads with some marks; to `show` and `dataflow` the lines and the dependences of such a trial; to `slice`, `value` and `replay` the slice, the value and the replay of the evaluation in it.
 abbrev pub MayReply : Query → Plan → Type 0
 MayReply list_query plan = (heads : List Head) × (plan ≡ telling (list_bytes heads))
 MayReply History plan = TellsSomeHistory plan
 MayReply (Show number) plan = MayReplyOf ShowsLines number plan
+MayReply (Dataflow number) plan = MayReplyOf DataflowOf number plan
 MayReply (Slice of) plan = MayReplyOf (Slices of.at of.k) of.trial plan
 MayReply (Value of) plan = MayReplyOf (ValuesOf of) of.trial plan
 MayReply (Replay of) plan = MayReplyOf (ReplaysOf of) of.trial plan

@@ -1,6 +1,6 @@
 // What is read of the store of trials.
 ghost use Rattle.std.specs.Prelude.{◌≡◌, false};
-ghost use Rattle.now_words.specs.declared.command.Query.TheVariants.{List as list_query, History, Show, Slice, Value, Replay};
+ghost use Rattle.now_words.specs.declared.command.Query.TheVariants.{List as list_query, History, Show, Dataflow, Slice, Value, Replay};
 ghost use Rattle.now_top.specs.Asking.{AnswersQuery, IsPlanOfDamage, IsPlanOfFault, IsPlanOfQuestion, IsPlanOfTrial};
 ghost use Rattle.now_top.specs.Kept.{stored};
 ghost use Rattle.now_top.specs.Planned.{plan_of, plan_of_text};
@@ -8,6 +8,7 @@ ghost use Rattle.now_top.specs.Reply.{replaying, telling};
 
 use crate::planned::{Planned, ending_without};
 use delivery::Ending;
+use dep_query::dataflow_text;
 use keeper::Keeper;
 use now_words::{Evaluation, Query};
 use prov_base::Bytes;
@@ -117,6 +118,16 @@ fn answer_show<'w, K: Keeper>(alloc: Global, keeper: &mut K, number: u32) -> Pla
     planned_trial(alloc, show_text(alloc, keeper, number))
 }
 
+/// What `dataflow` comes to, of the trial with a number.
+fn answer_dataflow<'w, K: Keeper>(alloc: Global, keeper: &mut K, number: u32) -> Planned<'w>
+    requires batch { K.is_open keeper.old ≡ false }
+    ensures answers { AnswersQuery (Dataflow number) (stored K.told K.faults keeper.old) (stored K.told K.faults keeper.new)
+        (K.may_leave keeper.old) (K.may_leave keeper.new) (plan_of result) }
+    ensures batch { K.is_open keeper.new ≡ false }
+{
+    planned_question(alloc, dataflow_text(alloc, keeper, number))
+}
+
 /// What `slice` comes to, of an evaluation.
 fn answer_slice<'w, K: Keeper>(alloc: Global, keeper: &mut K, of: Evaluation) -> Planned<'w>
     requires batch { K.is_open keeper.old ≡ false }
@@ -161,6 +172,7 @@ pub fn answer_query<'w, K: Keeper>(alloc: Global, keeper: &mut K, query: Query) 
         Query::List => answer_list(alloc, keeper),
         Query::History => answer_history(alloc, keeper),
         Query::Show(number) => answer_show(alloc, keeper, number),
+        Query::Dataflow(number) => answer_dataflow(alloc, keeper, number),
         Query::Slice(of) => answer_slice(alloc, keeper, of),
         Query::Value(of) => answer_value(alloc, keeper, of),
         Query::Replay(of) => answer_replay(alloc, keeper, of),

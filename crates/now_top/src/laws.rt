@@ -2,7 +2,7 @@
 ghost use Rattle.std.specs.Prelude.{◌≡◌, ℕ, true, false, List, ◌⊎◌, Option, Some};
 ghost use Rattle.now_words.specs.declared.command.Evaluation.{Evaluation as OneEvaluation};
 ghost use Rattle.now_words.specs.declared.command.Query.{Query as Question};
-ghost use Rattle.now_words.specs.declared.command.Query.TheVariants.{Slice, Value, Replay};
+ghost use Rattle.now_words.specs.declared.command.Query.TheVariants.{Dataflow, Slice, Value, Replay};
 ghost use Rattle.delivery.specs.Ending.{status_of};
 ghost use Rattle.keeper.specs.Keeping.{KeeperView};
 ghost use Rattle.keeper.specs.Tables.{TablesView};
@@ -19,6 +19,7 @@ ghost use Rattle.now_top.specs.Seen.{Seen};
 ghost use Rattle.now_top.specs.World.{World, Plan, StandsAt};
 ghost use Rattle.py_parser.specs.Reading.{HasScript};
 ghost use Rattle.py_tree.specs.Tree.{ScriptTree};
+ghost use Rattle.dep_query.specs.Dataflows.{IsDataflow};
 ghost use Rattle.trial_replay.specs.Replays.{IsReplayAt};
 ghost use Rattle.trial_replay.specs.declared.replaying.Replayed.TheVariants.{Lines};
 ghost use Rattle.trial_value.specs.Values.{IsValueAt};
@@ -26,6 +27,7 @@ ghost use Rattle.trial_value.specs.Values.{IsValueAt};
 use delivery::{
     done_is_whole, ends_in_one_way, no_count_rose, no_fault_answered, prefixes_are_written,
 };
+use dep_query::one_dataflow_of_a_trial;
 use py_parser::one_reading;
 use trial_loading::trials_are_loaded_one_way;
 use trial_replay::one_replay_of_a_trial;
@@ -87,6 +89,15 @@ pub fn writes_prefixes()
 pub fn writes_slice()
     ensures { (words : List (List ℕ)) (before after : Seen) (was is : Stored) (status : ℕ) → Replies words before after was is status → (of : OneEvaluation) (tables : TablesView)
         → command_of words ≡ Some (reads (Slice of)) → tables_told was is ≡ Some tables → status ≡ 0 → WritesSlice of tables before after }
+{
+    ends_in_one_way();
+    done_is_whole();
+}
+
+/// The law of dataflows: `dataflow T` with status 0, over a store that told its tables, has written the dependences between the statements of the trial T, and nothing else.
+pub fn writes_dataflow()
+    ensures { (words : List (List ℕ)) (before after : Seen) (was is : Stored) (status : ℕ) → Replies words before after was is status → (number : ℕ) (tables : TablesView)
+        → command_of words ≡ Some (reads (Dataflow number)) → tables_told was is ≡ Some tables → status ≡ 0 → WritesAnswer IsDataflow number tables before after }
 {
     ends_in_one_way();
     done_is_whole();
@@ -175,6 +186,7 @@ pub fn replies_by_tables()
         → RepliesBy query tables before after was is status }
 {
     trials_are_loaded_one_way();
+    one_dataflow_of_a_trial();
     one_slice_of_a_trial();
     one_value_of_a_trial();
     one_replay_of_a_trial();

@@ -4,7 +4,8 @@ ghost use Rattle.keeper.specs.Tables.{TablesView};
 ghost use Rattle.std.specs.String.{string_bytes};
 ghost use Rattle.now_words.specs.Command.{command_of, reads, run_kept};
 ghost use Rattle.now_words.specs.declared.command.Evaluation.{Evaluation as OneEvaluation};
-ghost use Rattle.now_words.specs.declared.command.Query.TheVariants.{Slice, Value, Replay};
+ghost use Rattle.now_words.specs.declared.command.Query.TheVariants.{Dataflow, Slice, Value, Replay};
+ghost use Rattle.dep_query.specs.Dataflows.{IsDataflow};
 ghost use Rattle.trial_replay.specs.Replays.{IsReplayAt};
 ghost use Rattle.trial_replay.specs.declared.replaying.Replayed.TheVariants.{Lines};
 ghost use Rattle.trial_value.specs.Values.{IsValueAt};
@@ -16,8 +17,8 @@ ghost use Rattle.now_top.specs.Kept.{stored, tables_told};
 
 use crate::deliver::deliver_plan;
 use crate::laws::{
-    does_as_meant, keeps_trial, writes_prefixes, writes_replay, writes_slice, writes_some_slice,
-    writes_value,
+    does_as_meant, keeps_trial, writes_dataflow, writes_prefixes, writes_replay, writes_slice,
+    writes_some_slice, writes_value,
 };
 use crate::plan::plan;
 use answer_source::{Devices, Exposes};
@@ -29,7 +30,7 @@ use std::alloc::Global;
 ///
 /// `run [--steps N] FILE [ARG]..` runs the script at FILE within N steps, from 1 to 1,000,000, with these arguments, and keeps the run as a trial; the files that it
 /// opened for writing are put once it is over, and then its output is written. With `--bare` nothing is kept. `list` writes a line for each trial, by number, and `history` its parent and whether it is current. `show T` writes the
-/// lines of the trial T. `slice T LINE COL K` writes the slice of an evaluation of the trial T, the K-th at that place: its script cut to the least closed set of statements
+/// lines of the trial T, and `dataflow T` which of its statements depends on which. `slice T LINE COL K` writes the slice of an evaluation of the trial T, the K-th at that place: its script cut to the least closed set of statements
 /// on which the value depends. `value T LINE COL K` writes the graph text of the value of that evaluation, and the steps that the run had spent by then. `replay T LINE COL K` runs that slice with
 /// the answers that the trial keeps, and writes the same of its run. These leave the store as it was. FILE is a path below the folder, of at most 255 bytes, and a script has at most 262,144 bytes.
 ///
@@ -58,6 +59,9 @@ pub fn now<C: Console + Drop, F: Folder + Drop, M: ClockAndRandom + Drop, K: Kee
     // The same over a store that tells nothing: the slice in some trial with the number, whose text is its script and whose rows are kept rows.
     ensures wrote_some_slice { (of : OneEvaluation) → command_of (map string_bytes words.now) ≡ Some (reads (Slice of)) → result.0 ≡ 0
         → WritesSomeSlice of (⟦<Devices<C, F, M> as Exposes>⟧.seen devices) (⟦<Devices<C, F, M> as Exposes>⟧.seen result.1) }
+    // With status 0 `dataflow` has written the dependences between the trial's statements, and nothing else.
+    ensures wrote_dataflow { (number : ℕ) (tables : TablesView) → command_of (map string_bytes words.now) ≡ Some (reads (Dataflow number)) → tables_told (stored K.told K.faults keeper.old) (stored K.told K.faults keeper.new) ≡ Some tables → result.0 ≡ 0
+        → WritesAnswer IsDataflow number tables (⟦<Devices<C, F, M> as Exposes>⟧.seen devices) (⟦<Devices<C, F, M> as Exposes>⟧.seen result.1) }
     // With status 0 `value` has written the two lines of the value of the evaluation, and nothing else.
     ensures wrote_value { (of : OneEvaluation) (tables : TablesView) → command_of (map string_bytes words.now) ≡ Some (reads (Value of)) → tables_told (stored K.told K.faults keeper.old) (stored K.told K.faults keeper.new) ≡ Some tables → result.0 ≡ 0
         → WritesAnswer (IsValueAt of.at of.k) of.trial tables (⟦<Devices<C, F, M> as Exposes>⟧.seen devices) (⟦<Devices<C, F, M> as Exposes>⟧.seen result.1) }
@@ -73,6 +77,7 @@ pub fn now<C: Console + Drop, F: Folder + Drop, M: ClockAndRandom + Drop, K: Kee
     writes_prefixes();
     writes_slice();
     writes_some_slice();
+    writes_dataflow();
     writes_value();
     writes_replay();
     let (planned, mut devices) = plan(alloc, words, devices, keeper);

@@ -1,7 +1,7 @@
 -- Worked rows of the definitions, each found by computation.
 use Rattle.std.proofs.Common.{◌≡◌, ℕ, List, [], ◌∷◌, codes, Option, Some, None, refl}
 use Rattle.now_words.specs.Command.{Command, run_bare, run_kept, reads, command_of, evaluation_at}
-use Rattle.now_words.specs.declared.command.Query.TheVariants.{List as list_query, History, Show, Slice, Value, Replay}
+use Rattle.now_words.specs.declared.command.Query.TheVariants.{List as list_query, History, Show, Dataflow, Slice, Value, Replay}
 
 abbrev file : List ℕ
 file = codes "s.py"
@@ -103,6 +103,12 @@ list_alone = refl
 
 list_with_dashes : command_of (codes "list" ∷ codes "--" ∷ []) ≡ Some (reads list_query)
 list_with_dashes = refl
+
+dataflow_of_one : command_of (codes "dataflow" ∷ codes "7" ∷ []) ≡ Some (reads (Dataflow 7))
+dataflow_of_one = refl
+
+dataflow_alone : command_of (codes "dataflow" ∷ []) ≡ None
+dataflow_alone = refl
 
 history_alone : command_of (codes "history" ∷ []) ≡ Some (reads History)
 history_alone = refl

@@ -5,7 +5,7 @@ use Rattle.std.specs.Str.{bytes_eq}
 use Rattle.now_words.specs.Numbers.{number_to}
 use Rattle.now_words.specs.declared.command.Evaluation.{Evaluation}
 use Rattle.now_words.specs.declared.command.Query.{Query}
-use Rattle.now_words.specs.declared.command.Query.TheVariants.{List as list_query, History, Show, Slice, Value, Replay}
+use Rattle.now_words.specs.declared.command.Query.TheVariants.{List as list_query, History, Show, Dataflow, Slice, Value, Replay}
 
 pub data Command : Type 0 where
   -- a run of a file within so many steps that keeps nothing
@@ -89,15 +89,15 @@ positional_words (word ∷ words) =
     else if is_option word then None
     else option_map (λ more. word ∷ more) (positional_words words)
 
--- `list` and `history` have no positional, `show` has one, which is a number from 1
+-- `list` and `history` have no positional, `show` and `dataflow` have one, which is a number from 1
 abbrev pub alone_of : Query → List (List ℕ) → Option Query
 alone_of query [] = Some query
 alone_of query (word ∷ words) = None
 
-abbrev pub show_of : List (List ℕ) → Option Query
-show_of [] = None
-show_of (word ∷ []) = option_map Show (number_to 4294967295 word)
-show_of (word ∷ other ∷ words) = None
+abbrev pub trial_of : List (List ℕ) → Option ℕ
+trial_of [] = None
+trial_of (word ∷ []) = number_to 4294967295 word
+trial_of (word ∷ other ∷ words) = None
 
 -- the evaluation with these numbers: its trial, the line and the column of its place, and which it is there
 abbrev pub evaluation_at : ℕ → ℕ → ℕ → ℕ → Evaluation
@@ -129,7 +129,8 @@ abbrev pub query_of : List ℕ → List (List ℕ) → Option Query
 query_of verb given =
     if bytes_eq verb (codes "list") then alone_of list_query given
     else if bytes_eq verb (codes "history") then alone_of History given
-    else if bytes_eq verb (codes "show") then show_of given
+    else if bytes_eq verb (codes "show") then option_map Show (trial_of given)
+    else if bytes_eq verb (codes "dataflow") then option_map Dataflow (trial_of given)
     else evaluation_query_of verb given
 
 -- a command that reads the store, by its command word and the words behind it

@@ -21,6 +21,8 @@ pub enum Query {
     History,
     /// `show T`: the trial with this number, from 1.
     Show(u32),
+    /// `dataflow T`: which statement of the trial with this number depends on which.
+    Dataflow(u32),
     /// `slice T LINE COL K`: the slice of this evaluation.
     Slice(Evaluation),
     /// `value T LINE COL K`: the value of this evaluation as the trial has it, and the steps up to it.

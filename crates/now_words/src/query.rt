@@ -1,7 +1,7 @@
 // The words of a command that reads the store of trials.
 ghost use Rattle.std.specs.Prelude.{◌≡◌, ◌∷◌, [], ℕ, List, map, option_and_then, option_map, IfOk};
 ghost use Rattle.std.specs.String.{string_bytes};
-ghost use Rattle.now_words.specs.Command.{evaluation_by, evaluation_of, alone_of, evaluation_query_of, positional_words, query_command, query_of, show_of};
+ghost use Rattle.now_words.specs.Command.{evaluation_by, evaluation_of, alone_of, evaluation_query_of, positional_words, query_command, query_of, trial_of};
 ghost use Rattle.now_words.specs.Parsed.{command_of_code};
 ghost use Rattle.now_words.specs.Positionals.{behind, positionals_from};
 
@@ -62,16 +62,13 @@ fn alone(query: Query, given: &[&str]) -> Option<Query>
     }
 }
 
-// What `show` asks for.
-fn show_query(given: &[&str]) -> Option<Query>
-    ensures { result ≡ show_of (map (λ k. k.now) given.now) }
+// The trial that words name.
+fn trial_in(given: &[&str]) -> Option<u32>
+    ensures { result ≡ trial_of (map (λ k. k.now) given.now) }
 {
     match given {
         [] => None,
-        [trial] => {
-            let number = number(trial.as_bytes(), GREATEST)?;
-            Some(Query::Show(number))
-        }
+        [trial] => number(trial.as_bytes(), GREATEST),
         _ => None,
     }
 }
@@ -129,7 +126,12 @@ fn query_by(verb: &str, given: &[&str]) -> Option<Query>
         return alone(Query::History, given);
     }
     if verb == "show" {
-        return show_query(given);
+        let found = trial_in(given)?;
+        return Some(Query::Show(found));
+    }
+    if verb == "dataflow" {
+        let found = trial_in(given)?;
+        return Some(Query::Dataflow(found));
     }
     evaluation_query(verb, given)
 }

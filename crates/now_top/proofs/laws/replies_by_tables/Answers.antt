@@ -1,12 +1,14 @@
 use Rattle.now_top.proofs.Completing.{reply_so, fine_so, replies_so}
 use Rattle.now_top.proofs.OneMeaning.{slices_alike, answers_alike, one_reply}
 use Rattle.now_top.specs.Reply.{telling, replaying}
+use Rattle.dep_query.specs.Dataflows.{IsDataflow, LacksDataflow}
 use Rattle.trial_replay.specs.Replays.{IsReplayAt}
 use Rattle.trial_value.specs.Values.{IsValueAt, LacksEvaluation}
 use Rattle.now_top.proofs.laws.replies_by_tables.Goals as goal
 
 pub returns-clause-one : goal.returns-clause-one
 returns-clause-one c = one_reply c.trials_are_loaded_one_way.ensures.trial c.trials_are_loaded_one_way.ensures.damage c.trials_are_loaded_one_way.ensures.never_both
+    (answers_alike telling IsDataflow LacksDataflow (λ trial other. c.one_dataflow_of_a_trial.ensures trial other) (λ trial other text same is lacks. lacks))
     (λ of. slices_alike c.one_slice_of_a_trial.ensures.slice c.one_slice_of_a_trial.ensures.never_both of.at of.k)
     (λ of. answers_alike telling (IsValueAt of.at of.k) (LacksEvaluation of.at of.k) (λ trial other. c.one_value_of_a_trial.ensures.value trial other of.at of.k)
     (λ trial other. c.one_value_of_a_trial.ensures.never_both trial other of.at of.k))

@@ -103,6 +103,22 @@ returns-clause-wrote_value g c = λ of tables word told zero. c.writes_value.ens
   };
 }) of tables word told zero
 
+pub returns-clause-wrote_dataflow : goal.returns-clause-wrote_dataflow
+returns-clause-wrote_dataflow g c = λ number tables word told zero. c.writes_dataflow.ensures (map string_bytes c.args.words.now) _ _ _ _ _ (record {
+  plan = plan_of c.plan-planned.result.0;
+  ran = _;
+  plans = c.plan-planned.ensures.plans.plans;
+  delivers = record {
+    delivered = c.deliver_plan-status.ensures.delivered;
+    moments = refl;
+    line = c.deliver_plan-status.ensures.in_faults;
+    file = c.deliver_plan-status.ensures.get_faults;
+    source = c.deliver_plan-status.ensures.source_faults;
+    time = refl;
+    word = refl;
+  };
+}) number tables word told zero
+
 pub returns-clause-wrote_replay : goal.returns-clause-wrote_replay
 returns-clause-wrote_replay g c = λ of tables word told zero. c.writes_replay.ensures (map string_bytes c.args.words.now) _ _ _ _ _ (record {
   plan = plan_of c.plan-planned.result.0;
