@@ -3,14 +3,14 @@ use Rattle.std.proofs.Common.{◌≡◌, ℕ, List, [], ◌∷◌, ◌++◌, Opt
 use Rattle.std.proofs.lemmas.Option.{same_Some}
 use Rattle.keeper.specs.Keeping.{KeeperView}
 use Rattle.keeper.specs.Tables.{TablesView}
-use Rattle.now_top.specs.Calls.{Calls, HasTrials, HasTrialsOf}
+use Rattle.now_top.specs.Calls.{Calls, HasTrials, as_before, with_run, with_set, HasTrialsOf}
 use Rattle.now_top.specs.Kept.{Clock, KeepsRun, Stored, tables_in}
 use Rattle.now_top.specs.World.{World, Plan}
 use Rattle.prov_base.specs.declared.place.Pos.{Pos}
 use Rattle.prov_outside.specs.Console.{ConsoleView}
 use Rattle.prov_outside.specs.Tells.{Tells}
 use Rattle.py_model.specs.Capture.{Telling}
-use Rattle.sound_trials.specs.Recorded.{KeptMore, no_more, one_more, WasRecorded}
+use Rattle.sound_trials.specs.Recorded.{KeptMore, no_more, one_more, set_more, WasRecorded}
 use Rattle.sound_trials.specs.Sound.{IsSound, RunsAgain}
 use Rattle.trial_keeping.specs.Trial.{Run}
 use Rattle.trial_slice.specs.Slices.{HasSlice}
@@ -29,9 +29,10 @@ recorded_so file steps arguments world began clock made run of = subst WasRecord
   pages_are = refl;
 })
 
-kept_more : (runs : List Run) (a b : TablesView) → HasTrials runs a b → KeptMore a b
-kept_more [] a b same = subst (KeptMore a) (sym same) no_more
-kept_more (run ∷ runs) a b has = one_more (kept_more runs a has.0 has.1.0) run has.1.1.1
+kept_more : (a : TablesView) (runs : List Run) (b : TablesView) → HasTrials a runs b → KeptMore a b
+kept_more a runs b as_before = no_more
+kept_more a runs b (with_run {earlier = earlier} between run has room is) = one_more (kept_more a earlier between has) run is
+kept_more a runs b (with_set between path number has is) = set_more (kept_more a runs between has) path number is
 
 -- what is told of two moments of a store
 pub told_so : (P : KeeperView → KeeperView → Type 0) (one other : Option KeeperView) (old new : KeeperView) → one ≡ Some old → other ≡ Some new → Tells one other P → P old new
@@ -53,7 +54,7 @@ pub later_so : (is at end : Stored) (calls : Calls is at) (new : KeeperView) (ta
 later_so is at end calls new tables told last tells =
     let here = told_at at.told end.told tables last in
     let grown = told_so (λ (was then : KeeperView). HasTrialsOf is at calls was.committed then.committed) is.told at.told new here.view told here.is_told tells in
-    subst (KeptMore new.committed) here.tables_are (kept_more grown.0 new.committed here.view.committed grown.1.1)
+    subst (KeptMore new.committed) here.tables_are (kept_more new.committed grown.0 here.view.committed grown.1.1)
 
 -- the trial has the number that it was given
 pub runs_at : (tables : TablesView) (ends : Telling) (at : Pos) (k : ℕ) (text : List ℕ) (m n : ℕ) → n ≡ m → ((slice : HasSlice tables m at k text) → RunsAgain slice.trial ends at k text)

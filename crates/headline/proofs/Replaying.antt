@@ -1,6 +1,5 @@
 -- What the run of a slice tells is the value of the evaluation in the trial.
-use Rattle.std.proofs.Common.{◌≡◌, refl, sym, ap, subst, ◌∙◌, ℕ, ◌≤◌, Bool, List, min, Option, Some, None, arith}
-use Rattle.std.proofs.lemmas.Option.{same_Some}
+use Rattle.std.proofs.Common.{◌≡◌, refl, subst, ◌∙◌, ℕ, ◌≤◌, Bool, List, min, Some, arith}
 use Rattle.delivery.specs.Ending.{status_of}
 use Rattle.held_rows.specs.ValueTexts.{IsValueText}
 use Rattle.keeper.specs.Tables.{TablesView}
@@ -8,12 +7,15 @@ use Rattle.now_top.specs.Reply.{RepliesOf, well_kept, not_there, amiss, answered
 use Rattle.now_top.specs.World.{Plan}
 use Rattle.now_words.specs.declared.command.Evaluation.{Evaluation}
 use Rattle.prov_base.specs.declared.place.Pos.{Pos}
-use Rattle.py_model.specs.Capture.{Telling, opening_in, with_bytes}
+use Rattle.py_model.specs.Capture.{Capture, Telling, opening_in, with_bytes}
 use Rattle.py_model.specs.History.{spent_on}
 use Rattle.py_model.specs.Moment.{Moment}
 use Rattle.py_tree.specs.Deletion.{deleted}
 use Rattle.py_tree.specs.Erasure.{script_of}
-use Rattle.slice_law.specs.Slices.{last_value}
+use Rattle.py_tree.specs.Tree.{ScriptTree}
+use Rattle.replays.specs.Replay.{IsReplayText, LacksEvaluation}
+use Rattle.slice_law.specs.Closed.{StmtSet}
+use Rattle.slice_law.specs.Slices.{Reproduces, last_value}
 use Rattle.sound_trials.specs.Sound.{RunsAgain, capture_in}
 use Rattle.trial_loading.specs.OneTrial.{AreSame}
 use Rattle.trial_loading.specs.declared.trial.Trial.{Trial}
@@ -31,8 +33,15 @@ use Rattle.trial_loading.specs.Loading.{IsLoaded}
 itself : (trial : Trial) → AreSame trial trial
 itself trial = record { number = refl; head = refl; text = refl; script = refl; rest = refl; rows = refl; cuts = refl }
 
-none_is : {A : Type 0} (found : Option A) (it : A) → found ≡ Some it → found ≡ None → ⊥
-none_is found it some none = cc
+-- where the run of a slice gives the value again, its replay has the evaluation and this value (`replayed_slices_give_the_value` of `replays`)
+abbrev pub ReachesAgain : Type 0
+ReachesAgain = (script : ScriptTree) (capture : Capture) (path : List ℕ) (arguments : List (List ℕ)) (steps : ℕ) (at : Pos) (k : ℕ) (upto : List Moment) (keep : StmtSet)
+    → Reproduces script capture path arguments steps at k upto keep → LacksEvaluation (deleted keep script) path arguments capture steps at k → ⊥
+
+abbrev pub GivesAgain : Type 0
+GivesAgain = (script : ScriptTree) (capture : Capture) (path : List ℕ) (arguments : List (List ℕ)) (steps : ℕ) (at : Pos) (k : ℕ) (upto : List Moment) (keep : StmtSet) (text : List ℕ) (cost : ℕ)
+    → Reproduces script capture path arguments steps at k upto keep → IsReplayText (deleted keep script) path arguments capture steps at k text cost
+    → (last_value script (opening_in capture path arguments) upto ≡ Some text) × (cost ≤ spent_on upto)
 
 -- the value of the evaluation, by the rows, and what the run of the slice says of it
 pub record Given (trial : Trial) (ends : Telling) (at : Pos) (k : ℕ) (text : List ℕ) : Type 0 where
@@ -52,27 +61,24 @@ module _ (trial : Trial) (ends : Telling) (at : Pos) (k : ℕ) (cut : List ℕ) 
       (same_keep trial trial at k it.keep runs.keep it.cut cut (itself trial) it.slice runs.slice)
       (it.again (capture_in trial ends) (record { answers = refl; files = refl }))
 
-  pub is_reached : IsReplayAt at k trial NotReached → ⊥
-  is_reached it = none_is _ runs.reproduces.again runs.reproduces.reached (told_in NotReached it)
+  pub is_reached : ReachesAgain → IsReplayAt at k trial NotReached → ⊥
+  is_reached again it = again (script_of trial.script) (capture_in trial ends) trial.head.path trial.arguments trial.head.steps at k runs.slice.upto runs.keep runs.reproduces (told_in NotReached it)
 
-  pub given : (text : List ℕ) → IsReplayAt at k trial (Lines text) → Given trial ends at k text
-  given text it =
+  pub given : GivesAgain → (text : List ℕ) → IsReplayAt at k trial (Lines text) → Given trial ends at k text
+  given again text it =
       let script = script_of trial.script in
       let opening = opening_in (capture_in trial ends) trial.head.path trial.arguments in
       let told : IsReplayed (deleted runs.keep script) trial.head.path trial.arguments (capture_in trial ends) trial.head.steps at k text = told_in (Lines text) it in
-      let same : runs.reproduces.again ≡ told.value.upto = same_Some _ _ (sym runs.reproduces.reached ∙ told.value.reached) in
-      let graph_is : last_value script opening runs.slice.upto ≡ Some told.graph =
-      sym runs.reproduces.same_value ∙ (ap (last_value (deleted runs.keep script) opening) same ∙ told.value.text_is) in
-      let costs : told.cost ≡ min 4294967295 (spent_on runs.reproduces.again) = told.value.steps_are ∙ ap (λ (m : List Moment). min 4294967295 (spent_on m)) (sym same) in
+      let gives = again script (capture_in trial ends) trial.head.path trial.arguments trial.head.steps at k runs.slice.upto runs.keep told.graph told.cost runs.reproduces told.value in
       let value : IsValueText script opening at k trial.rows told.graph (min 4294967295 (spent_on runs.slice.upto)) =
-      record { upto = runs.slice.upto; reached = runs.slice.reached; text_is = graph_is; steps_are = refl } in
+      record { upto = runs.slice.upto; reached = runs.slice.reached; text_is = gives.0; steps_are = refl } in
       record {
         graph = told.graph;
         steps = min 4294967295 (spent_on runs.slice.upto);
         cost = told.cost;
         value = value;
         written = λ other is. is.text_is ∙ one_text script opening at k trial.rows is.graph told.graph is.steps (min 4294967295 (spent_on runs.slice.upto)) (is.value (with_bytes (capture_in trial ends).files)) value;
-        no_more = omega (arith, costs, runs.reproduces.no_more);
+        no_more = omega (arith, gives.1, told.value.steps_are);
         text_is = told.text_is;
       }
 

@@ -16,6 +16,7 @@ ghost use Rattle.headline.specs.Headline.{GivesTheValue, WritesSliceThatRuns};
 use now_top::{
     keeps_trial, replies_by_tables, stores_have_trials_of_runs, writes_replay, writes_slice,
 };
+use replays::replayed_slices_give_the_value;
 use sound_trials::{kept_trials_are_sound, slices_of_kept_trials_run_again};
 
 /// The law of the program. `run FILE` came to a status of a run, and kept it as a trial. Then come any calls of the program, and then `slice` of that trial with status 0. What
@@ -56,4 +57,5 @@ pub fn replays_give_the_value()
     replies_by_tables();
     kept_trials_are_sound();
     slices_of_kept_trials_run_again();
+    replayed_slices_give_the_value();
 }

@@ -1,5 +1,5 @@
 -- What was put of a run stands in the tables: its contents under their digests, its head under the next number, and its pages (as in `trial_loading` and `kept_trials`).
-use Rattle.sound_trials.specs.Recorded.{KeptMore, no_more, one_more}
+use Rattle.sound_trials.specs.Recorded.{KeptMore, no_more, one_more, set_more}
 use Rattle.std.proofs.lemmas.List.{length-append}
 use Rattle.std.proofs.Common.{◌≡◌, ℕ, suc, ◌+◌, ◌<◌, Bool, true, false, ◌&&◌, ◌==◌, List, [], ◌∷◌, ◌++◌, length, map, slice_get, Option, Some, None, bytes_eq, if◌then◌else◌, refl, sym, ap, ap₂, subst, ◌∙◌, arith, eq-eqb, eqb-true, zero, ◌≤◌}
 use Rattle.std.specs.Prelude.{⊤}
@@ -8,7 +8,7 @@ use Rattle.sha1.specs.Sha1.{sha1}
 use Rattle.prov_base.specs.declared.place.Digest.{Digest}
 use Rattle.keeper.specs.declared.records.Head.{Head}
 use Rattle.keeper.specs.declared.records.Page.{Page}
-use Rattle.keeper.specs.Tables.{TablesView, head_at, with_trial, with_page, with_content}
+use Rattle.keeper.specs.Tables.{TablesView, head_at, with_trial, with_page, with_content, with_current}
 use Rattle.content_store.specs.Contents.{digest_of}
 use Rattle.trial_tables.specs.Whole.{fine, damaged, content_in, whole_content, whole_page, page_in}
 use Rattle.trial_tables.specs.declared.damage.Damage.TheVariants.{ContentAbsent, ContentDigest, PageDigest}
@@ -326,6 +326,11 @@ both_there tables earlier later first next = record {
     within : (trial : ℕ) → trial < next_trial tables → trial < next_trial earlier
     within trial less = let grown = first.more in omega (arith, less, grown)
 
+set_there : (path : List ℕ) (number : ℕ) (earlier later : TablesView) → later ≡ with_current path number earlier → StillThere earlier later
+set_there path number earlier later is =
+    subst (StillThere earlier) (sym is) (record { heads = λ n head there. there; contents = λ digest bytes there. there; pages = λ trial less number. refl; more = omega arith })
+
 pub more_there : (tables later : TablesView) → KeptMore tables later → StillThere tables later
 more_there tables later no_more = all_there tables
 more_there tables later (one_more {earlier = earlier} kept run is) = both_there tables earlier later (more_there tables earlier kept) (still_there run earlier later is)
+more_there tables later (set_more {earlier = earlier} kept path number is) = both_there tables earlier later (more_there tables earlier kept) (set_there path number earlier later is)

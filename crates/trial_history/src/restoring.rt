@@ -51,8 +51,8 @@ fn restore_loaded<K: Keeper, F: Folder>(
     }
 }
 
-/// The command `restore`: loads the trial with this number, which counts from 1, puts its script at its path and then each file that its run found with bytes, by path, into the folder, and
-/// makes the trial the current one of its path. It stops at the first put that is refused, and the trial that was current stays so. Behind `told` it writes a line `restored PATH` for each file
+/// The command `restore`: loads the trial with this number, which counts from 1. It puts its script at its path, and then each file that its run found with bytes, by path, into the folder.
+/// Then it makes the trial the current one of its path. It stops at the first put that is refused, and the trial that was current stays so. Behind `told` it writes a line `restored PATH` for each file
 /// that was put, in their order, whatever is answered. `Trial` comes as `load_trial` answers, or where the keeper failed or memory ran out; `Folder` where the folder failed, with the path.
 pub fn restore<K: Keeper, F: Folder>(
     alloc: Global,

@@ -23,7 +23,7 @@ returns-clause-value c = λ words before after was is status so steps file argum
     let slice = slice_run tables of.trial of.at of.k trial (Lines wrote.text) wrote.answer.loaded it in
     let runs = runs_at tables ends of.at of.k it.cut (next_trial old.committed) of.trial number
     (λ one. c.slices_of_kept_trials_run_again.ensures kept.run old.committed new.committed tables ends of.at of.k it.cut recorded put_so.1 later one) slice in
-    let so_given = given trial ends of.at of.k it.cut runs wrote.text it in
+    let so_given = given trial ends of.at of.k it.cut runs c.replayed_slices_give_the_value.ensures.value wrote.text it in
     record {
       trial = trial;
       loaded = wrote.answer.loaded;
@@ -49,4 +49,4 @@ returns-clause-reached c = λ words before after was is status so steps file arg
     twelve of tables by_tables.plan by_tables.is_reply by_tables.status_is (λ trial loaded it.
     let slice = slice_run tables of.trial of.at of.k trial NotReached loaded it in
     is_reached trial quiet of.at of.k it.cut (runs_at tables quiet of.at of.k it.cut (next_trial old.committed) of.trial number
-    (λ one. c.slices_of_kept_trials_run_again.ensures kept.run old.committed new.committed tables quiet of.at of.k it.cut recorded put_so.1 later one) slice) it)
+    (λ one. c.slices_of_kept_trials_run_again.ensures kept.run old.committed new.committed tables quiet of.at of.k it.cut recorded put_so.1 later one) slice) c.replayed_slices_give_the_value.ensures.reached it)
