@@ -37,3 +37,4 @@ mod TuplesAndUnpackingRun
 mod TwoActivationsLeftRun
 mod UnboundByExceptRun
 mod WithThatRaisesRun
+mod FedRun

@@ -1,0 +1,13 @@
+pub mod AnswerLaws
+pub mod BackwardStep
+pub mod Chains
+pub mod FindLaws
+pub mod FlagLaws
+pub mod FlagTurns
+pub mod ForwardStep
+pub mod NotedLaws
+pub mod PassedBelow
+pub mod RowMarks
+pub mod RowTelling
+pub mod RowsTold
+pub mod SiteLaws

@@ -1,0 +1,7 @@
+pub mod ExprForms
+pub mod FormStarts
+pub mod LinkParts
+pub mod Placing
+pub mod StmtForms
+pub mod TakingLaws
+pub mod TargetForms
