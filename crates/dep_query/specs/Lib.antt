@@ -2,3 +2,4 @@ pub mod Dataflows
 pub mod Dependences
 pub mod Lines
 pub mod Noting
+pub mod SiteTexts

@@ -16,7 +16,6 @@ ghost use Rattle.dep_query.specs.Noting.{is_found, is_parent_told, is_told, some
 
 use crate::dependence::{Dependence, Kind, kind_of};
 use crate::noting::{listed, note};
-use crate::places::places_of;
 use prov_base::{Memory, Pos};
 use py_tree::Script;
 use py_value::Value;
@@ -27,6 +26,7 @@ use slice_things::Forms;
 use std::alloc::Global;
 use std::collections::BTreeSet;
 use trace_rows::Row;
+use value_links::places_of;
 
 // A statement depends on the one that has it in its suite, if there is one.
 fn note_parent(

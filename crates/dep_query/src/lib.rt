@@ -15,15 +15,19 @@
 
 mod answering;
 mod dependence;
+mod fed;
+mod fed_text;
 mod gathering;
 mod laws;
 mod lines;
 mod noting;
-mod places;
+mod site_lines;
 mod text;
 
 pub use answering::dataflow;
 pub use dependence::{Dependence, Kind, order_of_dependences};
+pub use fed::{Way, feeding};
+pub use fed_text::feeding_text;
 pub use gathering::dependences;
-pub use laws::one_dataflow_of_a_trial;
+pub use laws::{one_dataflow_of_a_trial, one_feeding_of_a_trial};
 pub use text::dataflow_text;

@@ -3,7 +3,7 @@ use Rattle.std.specs.Prelude.{Result, Ok, Err, IfOk}
 use Rattle.py_tree.specs.Erasure.{script_of}
 use Rattle.dep_query.specs.Noting.{is_found, some_told, some_parent}
 use Rattle.dep_query.proofs.Gathered.{all_found}
-use Rattle.dep_query.proofs.Placing.{place_is}
+use Rattle.value_links.proofs.Placing.{place_is}
 use Rattle.dep_query.proofs.gathering.gathered.Goals as goal
 
 -- both clauses of an answer
