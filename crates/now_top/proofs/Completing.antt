@@ -6,10 +6,10 @@ use Rattle.std.proofs.lemmas.Option.{same_Some}
 use Rattle.std.specs.Option.{option_map}
 use Rattle.std.specs.Prelude.{IsSome, IsTrue}
 use Rattle.prov_base.specs.Path.{is_path}
-use Rattle.now_words.specs.Command.{Command, run_bare, run_kept, reads, command_of}
+use Rattle.now_words.specs.Command.{Command, run_bare, run_kept, reads, restores, command_of}
 use Rattle.now_words.specs.declared.command.Evaluation.{Evaluation}
 use Rattle.now_words.specs.declared.command.Query.{Query}
-use Rattle.now_words.specs.declared.command.Query.TheVariants.{List as list_query, History, Show, Dataflow, Slice, Value, Replay}
+use Rattle.now_words.specs.declared.command.Query.TheVariants.{List as list_query, History, Show, Dataflow, Slice, Value, Replay, Sources, Effects}
 use Rattle.delivery.specs.Ending.{Ending, done, uncaught, usage, refused, nothing_there, console_failed, folder_failed, store_failed, out_of_memory, out_of_steps, not_reached, collision, store_full, damaged_trial, status_of, closing_line, tells_of_store}
 use Rattle.delivery.specs.Ends.{Ends, as_planned, by_console as by_planned_console, by_folder as by_planned_folder, no_memory as lacked_memory, GetsPrefixes}
 use Rattle.delivery.specs.PutsAll.{OutFile}
@@ -35,6 +35,9 @@ use Rattle.trial_replay.specs.declared.replaying.Replayed.{Replayed}
 use Rattle.trial_replay.specs.declared.replaying.Replayed.TheVariants.{Lines, NotReached}
 use Rattle.trial_tables.specs.Written.{put, clash}
 use Rattle.trial_value.specs.Values.{IsValueAt}
+use Rattle.dep_query.specs.SiteTexts.{IsFedText}
+use Rattle.dep_query.specs.declared.fed.Way.{Way}
+use Rattle.dep_query.specs.declared.fed.Way.TheVariants.{Sources as to_it, Effects as from_it}
 use Rattle.now_top.specs.Completes.{IsTold, Completes, as_meant, by_console, by_folder, by_store, by_collision, by_full, no_memory, DoesWhole, DoesAsMeant, WritesPrefixes, WritesSlice, WritesAnswer, KeepsOne, RepliesBy, leaves_tables}
 use Rattle.capture.specs.declared.ended.RunEnd.{RunEnd}
 use Rattle.capture.specs.declared.ended.RunEnd.TheVariants.{Finished, Raised, Spent}
@@ -44,7 +47,7 @@ use Rattle.now_top.specs.Unkept.{with_keeping}
 use Rattle.now_top.specs.Means.{MeansCommand, file_of}
 use Rattle.now_top.specs.Replies.{Comes, meant, unread, store_unread, untold, no_memory as lacks_memory, Prepares, Replies}
 use Rattle.now_top.specs.Seen.{Seen, told_by}
-use Rattle.now_top.specs.Reply.{RepliesOf, well_kept, not_there, amiss, Slices, sliced, unevaluated, Answered, answered, unanswered, telling, DataflowOf, ValuesOf, replaying, ReplaysOf, Reply}
+use Rattle.now_top.specs.Reply.{RepliesOf, well_kept, not_there, amiss, Slices, sliced, unevaluated, Answered, answered, unanswered, telling, DataflowOf, ValuesOf, FeedingsOf, replaying, ReplaysOf, Reply}
 use Rattle.now_top.specs.World.{World, Plan, closing}
 
 -- what is told goes through what is told between
@@ -224,6 +227,8 @@ reply_is_fine (Dataflow number) tables plan is = answer_is_fine DataflowOf (ques
 reply_is_fine (Slice of) tables plan is = answer_is_fine (Slices of.at of.k) (slice_is_fine of) tables of.trial plan is
 reply_is_fine (Value of) tables plan is = answer_is_fine (ValuesOf of) (question_is_fine telling (λ text. refl) _ _) tables of.trial plan is
 reply_is_fine (Replay of) tables plan is = answer_is_fine (ReplaysOf of) (question_is_fine replaying replay_is_fine _ _) tables of.trial plan is
+reply_is_fine (Sources of) tables plan is = answer_is_fine (FeedingsOf to_it of) (question_is_fine telling (λ text. refl) _ _) tables of.trial plan is
+reply_is_fine (Effects of) tables plan is = answer_is_fine (FeedingsOf from_it of) (question_is_fine telling (λ text. refl) _ _) tables of.trial plan is
 
 -- a slice with which the command is done is one by the tables
 slice_done : (of : Evaluation) (tables : TablesView) (trial : Trial) (plan : Plan) → IsLoaded tables of.trial trial → Slices of.at of.k trial plan → plan.ending ≡ done → HasSlice tables of.trial of.at of.k plan.text
@@ -245,6 +250,10 @@ reply_answers comes answers of tables number plan (amiss damage is) done_so = ab
 pub flow_done : (trial : Trial) (plan : Plan) → DataflowOf trial plan → plan.ending ≡ done → IsDataflow trial plan.text
 flow_done trial plan (answered text is) done_so = is
 flow_done trial plan (unanswered so) done_so = absurd (cc)
+
+pub feeding_done : (way : Way) (of : Evaluation) (trial : Trial) (plan : Plan) → FeedingsOf way of trial plan → plan.ending ≡ done → IsFedText way of.at of.k trial plan.text
+feeding_done way of trial plan (answered text is) done_so = is
+feeding_done way of trial plan (unanswered so) done_so = absurd (cc)
 
 pub value_done : (of : Evaluation) (trial : Trial) (plan : Plan) → ValuesOf of trial plan → plan.ending ≡ done → IsValueAt of.at of.k trial plan.text
 value_done of trial plan (answered text is) done_so = is
@@ -523,11 +532,13 @@ module _ (words : List (List ℕ)) (before after : Seen) (was is : Stored) (stat
   steps_in (run_bare steps file arguments) = steps
   steps_in (run_kept steps file arguments) = steps
   steps_in (reads query) = 0
+  steps_in (restores number) = 0
 
   abbrev arguments_in : Command → List (List ℕ)
   arguments_in (run_bare steps file arguments) = arguments
   arguments_in (run_kept steps file arguments) = arguments
   arguments_in (reads query) = []
+  arguments_in (restores number) = []
 
   -- a command that keeps its run kept it, where the status is that of a run
   keeps_by : (made delivered : Plan) (began : Telling) (clock : Clock) (steps : ℕ) (file : List ℕ) (arguments : List (List ℕ)) → command ≡ Some (run_kept steps file arguments) → Keeps command world began clock made was is delivered

@@ -9,3 +9,5 @@ pub mod OneMeaning
 pub mod Answering
 pub mod Promising
 mod Questioning
+pub mod Restorings
+pub mod RestoreParts

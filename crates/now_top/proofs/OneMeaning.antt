@@ -1,10 +1,10 @@
 -- A command has at most one meaning over a world.
 use Rattle.std.proofs.Common.{◌≡◌, refl, sym, ap, subst, ◌∙◌, ℕ, Bool, true, false, List, ◌++◌, inl, inr, Option, Some, None}
 use Rattle.std.proofs.lemmas.Option.{same_Some}
-use Rattle.now_words.specs.Command.{Command, run_bare, run_kept, reads}
+use Rattle.now_words.specs.Command.{Command, run_bare, run_kept, reads, restores}
 use Rattle.now_words.specs.declared.command.Evaluation.{Evaluation}
 use Rattle.now_words.specs.declared.command.Query.{Query}
-use Rattle.now_words.specs.declared.command.Query.TheVariants.{List as list_query, History, Show, Dataflow, Slice, Value, Replay}
+use Rattle.now_words.specs.declared.command.Query.TheVariants.{List as list_query, History, Show, Dataflow, Slice, Value, Replay, Sources, Effects}
 use Rattle.delivery.specs.Ending.{Ending, refused, damaged_trial}
 use Rattle.keeper.specs.Tables.{TablesView}
 use Rattle.keeper.specs.declared.records.Head.{Head}
@@ -32,7 +32,9 @@ use Rattle.now_top.specs.Means.{MeansCommand}
 use Rattle.py_model.specs.Occurrences.{up_to_evaluation}
 use Rattle.row_moments.specs.Moments.{moments_in}
 use Rattle.trial_slice.specs.Sliced.{IsSliceOf}
-use Rattle.now_top.specs.Reply.{telling, RepliesOf, well_kept, not_there, amiss, ShowsLines, Slices, sliced, unevaluated, Answered, answered, unanswered, DataflowOf, ValuesOf, ReplaysOf, Reply}
+use Rattle.dep_query.specs.declared.fed.Way.{Way}
+use Rattle.dep_query.specs.declared.fed.Way.TheVariants.{Sources as to_it, Effects as from_it}
+use Rattle.now_top.specs.Reply.{telling, RepliesOf, well_kept, not_there, amiss, ShowsLines, Slices, sliced, unevaluated, Answered, answered, unanswered, DataflowOf, ValuesOf, FeedingsOf, ReplaysOf, Reply}
 
 false_is : false ≡ true → ⊥
 false_is is = cc
@@ -136,15 +138,17 @@ module _ (one_trial : (tables : TablesView) (number : ℕ) (trial other : Trial)
   one_answer answers alike tables number one other (amiss damage is) (amiss to so) = ap (λ (d : Damage). closing (damaged_trial number (detail d))) (one_damage tables number damage to is so)
 
   -- a question has one reply by the tables
-  pub one_reply : Alike DataflowOf → ((of : Evaluation) → Alike (Slices of.at of.k)) → ((of : Evaluation) → Alike (ValuesOf of)) → ((of : Evaluation) → Alike (ReplaysOf of))
+  pub one_reply : Alike DataflowOf → ((of : Evaluation) → Alike (Slices of.at of.k)) → ((of : Evaluation) → Alike (ValuesOf of)) → ((of : Evaluation) → Alike (ReplaysOf of)) → ((way : Way) (of : Evaluation) → Alike (FeedingsOf way of))
       → (query : Query) (tables : TablesView) (one other : Plan) → Reply query tables one → Reply query tables other → one ≡ other
-  one_reply flows slices values replays list_query tables one other a b = a ∙ sym b
-  one_reply flows slices values replays History tables one other a b = a ∙ sym b
-  one_reply flows slices values replays (Show number) tables one other a b = one_answer ShowsLines (λ trial to first second same is so. is ∙ (ap telling (same_lines trial to same) ∙ sym so)) tables number one other a b
-  one_reply flows slices values replays (Dataflow number) tables one other a b = one_answer DataflowOf flows tables number one other a b
-  one_reply flows slices values replays (Slice of) tables one other a b = one_answer (Slices of.at of.k) (slices of) tables of.trial one other a b
-  one_reply flows slices values replays (Value of) tables one other a b = one_answer (ValuesOf of) (values of) tables of.trial one other a b
-  one_reply flows slices values replays (Replay of) tables one other a b = one_answer (ReplaysOf of) (replays of) tables of.trial one other a b
+  one_reply flows slices values replays feedings list_query tables one other a b = a ∙ sym b
+  one_reply flows slices values replays feedings History tables one other a b = a ∙ sym b
+  one_reply flows slices values replays feedings (Show number) tables one other a b = one_answer ShowsLines (λ trial to first second same is so. is ∙ (ap telling (same_lines trial to same) ∙ sym so)) tables number one other a b
+  one_reply flows slices values replays feedings (Dataflow number) tables one other a b = one_answer DataflowOf flows tables number one other a b
+  one_reply flows slices values replays feedings (Slice of) tables one other a b = one_answer (Slices of.at of.k) (slices of) tables of.trial one other a b
+  one_reply flows slices values replays feedings (Value of) tables one other a b = one_answer (ValuesOf of) (values of) tables of.trial one other a b
+  one_reply flows slices values replays feedings (Replay of) tables one other a b = one_answer (ReplaysOf of) (replays of) tables of.trial one other a b
+  one_reply flows slices values replays feedings (Sources of) tables one other a b = one_answer (FeedingsOf to_it of) (feedings to_it of) tables of.trial one other a b
+  one_reply flows slices values replays feedings (Effects of) tables one other a b = one_answer (FeedingsOf from_it of) (feedings from_it of) tables of.trial one other a b
 
 pub one_of : ((file : List ℕ) (steps : ℕ) (arguments : List (List ℕ)) (world : World) (one other : Plan) → running.MeansRun file steps arguments world one → running.MeansRun file steps arguments world other → one ≡ other)
     → ((query : Query) (tables : TablesView) (one other : Plan) → Reply query tables one → Reply query tables other → one ≡ other)
@@ -154,3 +158,4 @@ one_of runs replies (Some (run_bare steps file arguments)) world tables one othe
 one_of runs replies (Some (run_kept steps file arguments)) world tables one other a b = runs file steps arguments world one other a b
 one_of runs replies (Some (reads query)) world (Some tables) one other a b = replies query tables one other a.1 b.1
 one_of runs replies (Some (reads query)) world None one other a b = absurd a
+one_of runs replies (Some (restores number)) world tables one other a b = absurd a

@@ -2,7 +2,7 @@
 use Rattle.std.specs.Prelude.{◌≡◌, ℕ, ℤ, Bool, true, false, List, ◌⊎◌, ◌↔◌, Option, Some, None, Result, IfErr}
 use Rattle.answer_source.specs.Live.{capture_of}
 use Rattle.capture.specs.Capture.{CaptureView}
-use Rattle.now_words.specs.Command.{Command, run_bare, run_kept, reads}
+use Rattle.now_words.specs.Command.{Command, run_bare, run_kept, reads, restores}
 use Rattle.now_words.specs.declared.command.Query.{Query}
 use Rattle.delivery.specs.Ending.{Ending, done, uncaught, out_of_steps, out_of_memory, store_failed}
 use Rattle.keeper.specs.Keeping.{KeeperView, LeavesAmong}
@@ -29,6 +29,7 @@ keeps None = false
 keeps (Some (run_bare steps file arguments)) = false
 keeps (Some (run_kept steps file arguments)) = true
 keeps (Some (reads query)) = false
+keeps (Some (restores number)) = false
 
 -- the command reads the store
 abbrev pub reads_store : Option Command → Bool
@@ -36,6 +37,7 @@ reads_store None = false
 reads_store (Some (run_bare steps file arguments)) = false
 reads_store (Some (run_kept steps file arguments)) = false
 reads_store (Some (reads query)) = true
+reads_store (Some (restores number)) = false
 
 -- the command runs a script
 abbrev pub runs_script : Option Command → Bool
@@ -43,6 +45,7 @@ runs_script None = false
 runs_script (Some (run_bare steps file arguments)) = true
 runs_script (Some (run_kept steps file arguments)) = true
 runs_script (Some (reads query)) = false
+runs_script (Some (restores number)) = false
 
 -- of a command that runs a script a run comes to such an ending, and nothing else does
 abbrev pub ends_a_run : Ending → Bool

@@ -14,3 +14,4 @@ pub mod KeepingRun
 pub mod Asking
 pub mod Replies
 pub mod Promises
+pub mod Restored

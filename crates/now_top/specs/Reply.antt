@@ -2,7 +2,7 @@
 use Rattle.std.specs.Prelude.{◌≡◌, ℕ, Bool, List, [], ◌++◌, None}
 use Rattle.now_words.specs.declared.command.Evaluation.{Evaluation}
 use Rattle.now_words.specs.declared.command.Query.{Query}
-use Rattle.now_words.specs.declared.command.Query.TheVariants.{List as list_query, History, Show, Dataflow, Slice, Value, Replay}
+use Rattle.now_words.specs.declared.command.Query.TheVariants.{List as list_query, History, Show, Dataflow, Slice, Value, Replay, Sources, Effects}
 use Rattle.dep_query.specs.Dataflows.{IsDataflow, LacksDataflow}
 use Rattle.delivery.specs.Ending.{done, nothing_there, not_reached, damaged_trial}
 use Rattle.keeper.specs.declared.records.Head.{Head}
@@ -24,6 +24,9 @@ use Rattle.trial_tables.specs.declared.damage.Damage.{Damage}
 use Rattle.trial_replay.specs.Replays.{IsReplayAt}
 use Rattle.trial_replay.specs.declared.replaying.Replayed.{Replayed}
 use Rattle.trial_replay.specs.declared.replaying.Replayed.TheVariants.{Lines, NotReached}
+use Rattle.dep_query.specs.SiteTexts.{IsFedText, LacksSite}
+use Rattle.dep_query.specs.declared.fed.Way.{Way}
+use Rattle.dep_query.specs.declared.fed.Way.TheVariants.{Sources as to_it, Effects as from_it}
 use Rattle.trial_value.specs.Values.{IsValueAt, LacksEvaluation}
 use Rattle.now_top.specs.Seen.{Seen}
 use Rattle.now_top.specs.World.{Plan, closing}
@@ -61,6 +64,10 @@ DataflowOf = Answered telling IsDataflow LacksDataflow
 abbrev pub ValuesOf : Evaluation → Trial → Plan → Type 0
 ValuesOf of = Answered telling (IsValueAt of.at of.k) (LacksEvaluation of.at of.k)
 
+-- `sources` and `effects`: the evaluations that feed the evaluation, or that it feeds
+abbrev pub FeedingsOf : Way → Evaluation → Trial → Plan → Type 0
+FeedingsOf way of = Answered telling (IsFedText way of.at of.k) (LacksSite of.at of.k)
+
 -- the two lines of a replay, or that the evaluation was not reached
 abbrev pub replaying : Replayed → Plan
 replaying (Lines text) = telling text
@@ -79,6 +86,8 @@ Reply (Dataflow number) tables plan = RepliesOf DataflowOf tables number plan
 Reply (Slice of) tables plan = RepliesOf (Slices of.at of.k) tables of.trial plan
 Reply (Value of) tables plan = RepliesOf (ValuesOf of) tables of.trial plan
 Reply (Replay of) tables plan = RepliesOf (ReplaysOf of) tables of.trial plan
+Reply (Sources of) tables plan = RepliesOf (FeedingsOf to_it of) tables of.trial plan
+Reply (Effects of) tables plan = RepliesOf (FeedingsOf from_it of) tables of.trial plan
 
 -- What a question about the trial with a number may be answered over a store that does not tell its tables. It is what some trial with this number answers, whose text is
 -- its script and whose rows are kept rows; or that something is not there; or that the trial is not well kept, by some damage in words.
@@ -93,7 +102,8 @@ pub record TellsSomeHistory (plan : Plan) : Type 0 where
   pub lines : AreSomeLines text
   pub plan_is : plan ≡ telling text
 
--- To `list` it is the lines of some heads; to `history` those of some heads with some marks; to `show` and `dataflow` the lines and the dependences of such a trial; to `slice`, `value` and `replay` the slice, the value and the replay of the evaluation in it.
+-- To `list` it is the lines of some heads; to `history` those of some heads with some marks; to `show` and `dataflow` the lines and the dependences of such a trial; to `slice`, `value`, `replay`, `sources` and `effects`
+-- the slice, the value, the replay, the sources and the effects of the evaluation in it.
 abbrev pub MayReply : Query → Plan → Type 0
 MayReply list_query plan = (heads : List Head) × (plan ≡ telling (list_bytes heads))
 MayReply History plan = TellsSomeHistory plan
@@ -102,6 +112,8 @@ MayReply (Dataflow number) plan = MayReplyOf DataflowOf number plan
 MayReply (Slice of) plan = MayReplyOf (Slices of.at of.k) of.trial plan
 MayReply (Value of) plan = MayReplyOf (ValuesOf of) of.trial plan
 MayReply (Replay of) plan = MayReplyOf (ReplaysOf of) of.trial plan
+MayReply (Sources of) plan = MayReplyOf (FeedingsOf to_it of) of.trial plan
+MayReply (Effects of) plan = MayReplyOf (FeedingsOf from_it of) of.trial plan
 
 -- The console got the slice of the evaluation in some trial with its number, whose text is its script and whose rows are kept rows, and nothing else.
 pub record WritesSomeSlice (of : Evaluation) (before after : Seen) : Type 0 where

@@ -1,6 +1,6 @@
 // What is read of the store of trials.
 ghost use Rattle.std.specs.Prelude.{◌≡◌, false};
-ghost use Rattle.now_words.specs.declared.command.Query.TheVariants.{List as list_query, History, Show, Dataflow, Slice, Value, Replay};
+ghost use Rattle.now_words.specs.declared.command.Query.TheVariants.{List as list_query, History, Show, Dataflow, Slice, Value, Replay, Sources, Effects};
 ghost use Rattle.now_top.specs.Asking.{AnswersQuery, IsPlanOfDamage, IsPlanOfFault, IsPlanOfQuestion, IsPlanOfTrial};
 ghost use Rattle.now_top.specs.Kept.{stored};
 ghost use Rattle.now_top.specs.Planned.{plan_of, plan_of_text};
@@ -8,7 +8,7 @@ ghost use Rattle.now_top.specs.Reply.{replaying, telling};
 
 use crate::planned::{Planned, ending_without};
 use delivery::Ending;
-use dep_query::dataflow_text;
+use dep_query::{Way, dataflow_text, feeding_text};
 use keeper::Keeper;
 use now_words::{Evaluation, Query};
 use prov_base::Bytes;
@@ -43,7 +43,7 @@ fn planned_damage<'w>(alloc: Global, number: u32, damage: Damage) -> Planned<'w>
 }
 
 /// What the text of a trial comes to, or why there is none.
-fn planned_trial<'w>(alloc: Global, text: Result<Bytes, TrialFault>) -> Planned<'w>
+pub(crate) fn planned_trial<'w>(alloc: Global, text: Result<Bytes, TrialFault>) -> Planned<'w>
     ensures { IsPlanOfTrial text (plan_of result) }
 {
     match text {
@@ -161,6 +161,32 @@ fn answer_replay<'w, K: Keeper>(alloc: Global, keeper: &mut K, of: Evaluation) -
     planned_replay(alloc, replayed_text(alloc, keeper, of.trial, of.at, of.k))
 }
 
+/// What `sources` comes to, of an evaluation.
+fn answer_sources<'w, K: Keeper>(alloc: Global, keeper: &mut K, of: Evaluation) -> Planned<'w>
+    requires batch { K.is_open keeper.old ≡ false }
+    ensures answers { AnswersQuery (Sources of) (stored K.told K.faults keeper.old) (stored K.told K.faults keeper.new)
+        (K.may_leave keeper.old) (K.may_leave keeper.new) (plan_of result) }
+    ensures batch { K.is_open keeper.new ≡ false }
+{
+    planned_question(
+        alloc,
+        feeding_text(alloc, keeper, Way::Sources, of.trial, of.at, of.k),
+    )
+}
+
+/// What `effects` comes to, of an evaluation.
+fn answer_effects<'w, K: Keeper>(alloc: Global, keeper: &mut K, of: Evaluation) -> Planned<'w>
+    requires batch { K.is_open keeper.old ≡ false }
+    ensures answers { AnswersQuery (Effects of) (stored K.told K.faults keeper.old) (stored K.told K.faults keeper.new)
+        (K.may_leave keeper.old) (K.may_leave keeper.new) (plan_of result) }
+    ensures batch { K.is_open keeper.new ≡ false }
+{
+    planned_question(
+        alloc,
+        feeding_text(alloc, keeper, Way::Effects, of.trial, of.at, of.k),
+    )
+}
+
 /// What a question to the store comes to. Nothing is changed there.
 pub fn answer_query<'w, K: Keeper>(alloc: Global, keeper: &mut K, query: Query) -> Planned<'w>
     requires batch { K.is_open keeper.old ≡ false }
@@ -176,5 +202,7 @@ pub fn answer_query<'w, K: Keeper>(alloc: Global, keeper: &mut K, query: Query) 
         Query::Slice(of) => answer_slice(alloc, keeper, of),
         Query::Value(of) => answer_value(alloc, keeper, of),
         Query::Replay(of) => answer_replay(alloc, keeper, of),
+        Query::Sources(of) => answer_sources(alloc, keeper, of),
+        Query::Effects(of) => answer_effects(alloc, keeper, of),
     }
 }

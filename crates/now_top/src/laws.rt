@@ -1,8 +1,8 @@
 // The laws of the top call: public functions without a body, whose contracts are the laws.
-ghost use Rattle.std.specs.Prelude.{◌≡◌, ℕ, true, false, List, ◌⊎◌, Option, Some};
+ghost use Rattle.std.specs.Prelude.{◌≡◌, ℕ, true, false, List, ◌⊎◌, Option, None, Some};
 ghost use Rattle.now_words.specs.declared.command.Evaluation.{Evaluation as OneEvaluation};
 ghost use Rattle.now_words.specs.declared.command.Query.{Query as Question};
-ghost use Rattle.now_words.specs.declared.command.Query.TheVariants.{Dataflow, Slice, Value, Replay};
+ghost use Rattle.now_words.specs.declared.command.Query.TheVariants.{Dataflow, Slice, Value, Replay, Sources, Effects};
 ghost use Rattle.delivery.specs.Ending.{status_of};
 ghost use Rattle.keeper.specs.Keeping.{KeeperView};
 ghost use Rattle.keeper.specs.Tables.{TablesView};
@@ -23,11 +23,15 @@ ghost use Rattle.dep_query.specs.Dataflows.{IsDataflow};
 ghost use Rattle.trial_replay.specs.Replays.{IsReplayAt};
 ghost use Rattle.trial_replay.specs.declared.replaying.Replayed.TheVariants.{Lines};
 ghost use Rattle.trial_value.specs.Values.{IsValueAt};
+ghost use Rattle.dep_query.specs.SiteTexts.{IsFedText};
+ghost use Rattle.dep_query.specs.declared.fed.Way.TheVariants.{Sources as to_it, Effects as from_it};
+ghost use Rattle.keeper.specs.Tables.{head_at};
+ghost use Rattle.now_top.specs.Restored.{EndsRestoring, RestoredWhole, RestoresTrial};
 
 use delivery::{
     done_is_whole, ends_in_one_way, no_count_rose, no_fault_answered, prefixes_are_written,
 };
-use dep_query::one_dataflow_of_a_trial;
+use dep_query::{one_dataflow_of_a_trial, one_feeding_of_a_trial};
 use py_parser::one_reading;
 use trial_loading::trials_are_loaded_one_way;
 use trial_replay::one_replay_of_a_trial;
@@ -113,12 +117,32 @@ pub fn writes_value()
     done_is_whole();
 }
 
-/// The law of replays: `replay T LINE COL K` with status 0, over a store that told its tables, has written the two lines of the value that the run of the slice of the evaluation
-/// in the trial T gives there, and nothing else.
+/// The law of replays: `replay T LINE COL K` with status 0, over a store that told its tables, has written two lines, and nothing else. They are the value that the run of the
+/// slice of that evaluation gives there, and its steps.
 pub fn writes_replay()
     ensures { (words : List (List ℕ)) (before after : Seen) (was is : Stored) (status : ℕ) → Replies words before after was is status → (of : OneEvaluation) (tables : TablesView)
         → command_of words ≡ Some (reads (Replay of)) → tables_told was is ≡ Some tables → status ≡ 0
         → WritesAnswer (λ trial text. IsReplayAt of.at of.k trial (Lines text)) of.trial tables before after }
+{
+    ends_in_one_way();
+    done_is_whole();
+}
+
+/// The law of sources: `sources T LINE COL K` with status 0, over a store that told its tables, has written the evaluations that feed the evaluation in the trial T, and
+/// nothing else.
+pub fn writes_sources()
+    ensures { (words : List (List ℕ)) (before after : Seen) (was is : Stored) (status : ℕ) → Replies words before after was is status → (of : OneEvaluation) (tables : TablesView)
+        → command_of words ≡ Some (reads (Sources of)) → tables_told was is ≡ Some tables → status ≡ 0 → WritesAnswer (IsFedText to_it of.at of.k) of.trial tables before after }
+{
+    ends_in_one_way();
+    done_is_whole();
+}
+
+/// The law of effects: `effects T LINE COL K` with status 0, over a store that told its tables, has written the evaluations that the evaluation feeds in the trial T, and
+/// nothing else.
+pub fn writes_effects()
+    ensures { (words : List (List ℕ)) (before after : Seen) (was is : Stored) (status : ℕ) → Replies words before after was is status → (of : OneEvaluation) (tables : TablesView)
+        → command_of words ≡ Some (reads (Effects of)) → tables_told was is ≡ Some tables → status ≡ 0 → WritesAnswer (IsFedText from_it of.at of.k) of.trial tables before after }
 {
     ends_in_one_way();
     done_is_whole();
@@ -163,14 +187,15 @@ pub fn run_completes()
 }
 
 /// The law of histories: after any calls of the program the store has what it had before, and the trials of the runs that these calls kept, in their order, each as the
-/// next one. A call of `run FILE` with the status 0, 1 or 9 kept its run, and another one may have.
+/// next one. A call of `run FILE` with the status 0, 1 or 9 kept its run, and another one may have. A call of `restore` may have made another trial the current one of its
+/// path, and changed nothing else.
 pub fn stores_have_trials_of_runs()
     ensures { (was is : Stored) (calls : Calls was is) → Tells was.told is.told (λ (old new : KeeperView). HasTrialsOf was is calls old.committed new.committed) }
 {
     ends_in_one_way();
 }
 
-/// The law that no other command changes the store: its tables stay, and nothing is asked of it but by a command that reads it.
+/// The law that no command but these and `restore` changes the store: its tables stay, and nothing is asked of it but by a command that reads it.
 pub fn keeps_nothing_else()
     ensures tables { (words : List (List ℕ)) (before after : Seen) (was is : Stored) (status : ℕ) → Replies words before after was is status → keeps (command_of words) ≡ false
         → Tells was.told is.told (λ (old new : KeeperView). new ≡ old) }
@@ -190,6 +215,7 @@ pub fn replies_by_tables()
     one_slice_of_a_trial();
     one_value_of_a_trial();
     one_replay_of_a_trial();
+    one_feeding_of_a_trial();
     no_fault_answered();
     ends_in_one_way();
     no_count_rose();
@@ -212,4 +238,25 @@ pub fn writes_some_slice()
         → command_of words ≡ Some (reads (Slice of)) → status ≡ 0 → WritesSomeSlice of before after }
 {
     done_is_whole();
+}
+
+/// The law of restoring: with status 0 `restore T` has put the script of the trial T at its path and then each file that its run found with bytes, by path, and has told each of them.
+/// The trial is the current one of its path. Nothing else is new in the folder, on the console and in the store.
+pub fn restores_trials()
+    ensures { (number : ℕ) (before after : Seen) (was is : Stored) (status : ℕ) → RestoresTrial number before after was is status → status ≡ 0 → RestoredWhole number before after was is }
+{
+    done_is_whole();
+}
+
+/// The law of the statuses of `restore`. 4 comes where there is no such trial, 11 where something is amiss of it, 5, 6 and 7 where the count of the console, of the folder's puts or of the keeper rose,
+/// and 8 for lack of memory. Where there is no such trial, the status is 4, 7 or 8. With status 6 the closing line names the file whose put was refused. The tables stay but with the
+/// statuses 0, 5 and 8, with which the trial may have become the current one of its path. The console got a prefix of the lines and then of a closing line in any case.
+pub fn restoring_ends()
+    ensures ends { (number : ℕ) (before after : Seen) (was is : Stored) (status : ℕ) → RestoresTrial number before after was is status → EndsRestoring number before after was is status }
+    ensures absent { (number : ℕ) (before after : Seen) (was is : Stored) (status : ℕ) → RestoresTrial number before after was is status → (old new : KeeperView) → was.told ≡ Some old → is.told ≡ Some new
+        → head_at old.seen.heads number ≡ None → (status ≡ 4) ⊎ ((status ≡ 7) ⊎ (status ≡ 8)) }
+    ensures prefixes { (number : ℕ) (before after : Seen) (was is : Stored) (status : ℕ) (of : RestoresTrial number before after was is status) → WritesPrefixes of.text status before after }
+{
+    restores_trials();
+    prefixes_are_written();
 }

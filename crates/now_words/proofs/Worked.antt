@@ -1,7 +1,7 @@
 -- Worked rows of the definitions, each found by computation.
 use Rattle.std.proofs.Common.{◌≡◌, ℕ, List, [], ◌∷◌, codes, Option, Some, None, refl}
-use Rattle.now_words.specs.Command.{Command, run_bare, run_kept, reads, command_of, evaluation_at}
-use Rattle.now_words.specs.declared.command.Query.TheVariants.{List as list_query, History, Show, Dataflow, Slice, Value, Replay}
+use Rattle.now_words.specs.Command.{Command, run_bare, run_kept, reads, restores, command_of, evaluation_at}
+use Rattle.now_words.specs.declared.command.Query.TheVariants.{List as list_query, History, Show, Dataflow, Slice, Value, Replay, Sources, Effects}
 
 abbrev file : List ℕ
 file = codes "s.py"
@@ -110,6 +110,15 @@ dataflow_of_one = refl
 dataflow_alone : command_of (codes "dataflow" ∷ []) ≡ None
 dataflow_alone = refl
 
+sources_of_one : command_of (codes "sources" ∷ codes "1" ∷ codes "4" ∷ codes "6" ∷ codes "2" ∷ []) ≡ Some (reads (Sources (evaluation_at 1 4 6 2)))
+sources_of_one = refl
+
+effects_of_one : command_of (codes "effects" ∷ codes "1" ∷ codes "2" ∷ codes "10" ∷ codes "1" ∷ []) ≡ Some (reads (Effects (evaluation_at 1 2 10 1)))
+effects_of_one = refl
+
+effects_of_a_trial : command_of (codes "effects" ∷ codes "1" ∷ []) ≡ None
+effects_of_a_trial = refl
+
 history_alone : command_of (codes "history" ∷ []) ≡ Some (reads History)
 history_alone = refl
 
@@ -202,3 +211,35 @@ slice_signed = refl
 
 slice_no_number : command_of (codes "slice" ∷ codes "1" ∷ codes "7" ∷ codes "x" ∷ codes "3" ∷ []) ≡ None
 slice_no_number = refl
+
+-- ---- `restore`
+
+restore_one : command_of (codes "restore" ∷ codes "1" ∷ []) ≡ Some (restores 1)
+restore_one = refl
+
+restore_leading_zeros : command_of (codes "restore" ∷ codes "0042" ∷ []) ≡ Some (restores 42)
+restore_leading_zeros = refl
+
+restore_behind_dashes : command_of (codes "restore" ∷ codes "--" ∷ codes "4294967295" ∷ []) ≡ Some (restores 4294967295)
+restore_behind_dashes = refl
+
+restore_nothing : command_of (codes "restore" ∷ []) ≡ None
+restore_nothing = refl
+
+restore_two : command_of (codes "restore" ∷ codes "1" ∷ codes "2" ∷ []) ≡ None
+restore_two = refl
+
+restore_zero : command_of (codes "restore" ∷ codes "0" ∷ []) ≡ None
+restore_zero = refl
+
+restore_past_greatest : command_of (codes "restore" ∷ codes "4294967296" ∷ []) ≡ None
+restore_past_greatest = refl
+
+restore_signed : command_of (codes "restore" ∷ codes "-1" ∷ []) ≡ None
+restore_signed = refl
+
+restore_with_dashes_twice : command_of (codes "restore" ∷ codes "--" ∷ codes "--" ∷ []) ≡ None
+restore_with_dashes_twice = refl
+
+restore_of_a_word : command_of (codes "restore" ∷ file ∷ []) ≡ None
+restore_of_a_word = refl

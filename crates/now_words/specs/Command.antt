@@ -5,7 +5,7 @@ use Rattle.std.specs.Str.{bytes_eq}
 use Rattle.now_words.specs.Numbers.{number_to}
 use Rattle.now_words.specs.declared.command.Evaluation.{Evaluation}
 use Rattle.now_words.specs.declared.command.Query.{Query}
-use Rattle.now_words.specs.declared.command.Query.TheVariants.{List as list_query, History, Show, Dataflow, Slice, Value, Replay}
+use Rattle.now_words.specs.declared.command.Query.TheVariants.{List as list_query, History, Show, Dataflow, Slice, Value, Replay, Sources, Effects}
 
 pub data Command : Type 0 where
   -- a run of a file within so many steps that keeps nothing
@@ -14,6 +14,8 @@ pub data Command : Type 0 where
   run_kept : (steps : ℕ) → (file : List ℕ) → (arguments : List (List ℕ)) → Command
   -- what is read of the store of trials
   reads : Query → Command
+  -- the files of the trial with this number are put back, and it becomes the current one of its path
+  restores : (number : ℕ) → Command
 
 -- what the words behind `run` have said so far
 pub record Reading : Type 0 where
@@ -122,6 +124,8 @@ evaluation_query_of verb given =
     if bytes_eq verb (codes "slice") then option_map Slice (evaluation_of given)
     else if bytes_eq verb (codes "value") then option_map Value (evaluation_of given)
     else if bytes_eq verb (codes "replay") then option_map Replay (evaluation_of given)
+    else if bytes_eq verb (codes "sources") then option_map Sources (evaluation_of given)
+    else if bytes_eq verb (codes "effects") then option_map Effects (evaluation_of given)
     else None
 
 -- what a command that reads the store asks for, by its command word and its positionals
@@ -137,7 +141,14 @@ query_of verb given =
 abbrev pub query_command : List ℕ → List (List ℕ) → Option Command
 query_command verb words = option_map reads (option_and_then (query_of verb) (positional_words words))
 
+-- `restore`, by the words behind it: one positional, which is a number from 1
+abbrev pub restore_command : List (List ℕ) → Option Command
+restore_command words = option_map restores (option_and_then trial_of (positional_words words))
+
 -- the command that the words are
 abbrev pub command_of : List (List ℕ) → Option Command
 command_of [] = None
-command_of (verb ∷ words) = if bytes_eq verb (codes "run") then run_command words else query_command verb words
+command_of (verb ∷ words) =
+    if bytes_eq verb (codes "run") then run_command words
+    else if bytes_eq verb (codes "restore") then restore_command words
+    else query_command verb words

@@ -29,6 +29,10 @@ pub enum Query {
     Value(Evaluation),
     /// `replay T LINE COL K`: the same, from the run of the slice in what the devices gave.
     Replay(Evaluation),
+    /// `sources T LINE COL K`: the evaluations that feed this one.
+    Sources(Evaluation),
+    /// `effects T LINE COL K`: the evaluations that this one feeds.
+    Effects(Evaluation),
 }
 
 /// A command. Its file is one of the words as it stands there, which need not be a path.
@@ -49,4 +53,6 @@ pub enum Command<'w> {
     },
     /// A command that reads the store of trials.
     Reads(Query),
+    /// `restore T`: the files of the trial with this number, from 1, are put back, and it becomes the current one of its path.
+    Restores(u32),
 }

@@ -6,8 +6,9 @@
 //!     it is not said.
 //!   - Any other word before it that begins with `-` and is not `-` alone makes the words no command.
 //!   - The other words are positionals, the empty word too. The first is FILE, the others are ARG in order.
-//! - `list` and `history`: no positional. `show T` and `dataflow T`: one. `slice T LINE COL K`, and `value` and `replay` likewise: four. Each is decimal digits from 1 to 4294967295, leading zeros allowed. They have no options, and the
+//! - `list` and `history`: no positional. `show T` and `dataflow T`: one. `slice T LINE COL K`, and `value`, `replay`, `sources` and `effects` likewise: four. Each is decimal digits from 1 to 4294967295, leading zeros allowed. They have no options, and the
 //!   first `--` is dropped likewise. They read the store of trials alone, and are each a [`Query`].
+//! - `restore T`: one positional, which is such a number.
 //!
 //! [`read`] gives the command exactly where the words are one ([`Command`], `command_of` in `specs/Command.antt`). That FILE is
 //! a path is not asked here.

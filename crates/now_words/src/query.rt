@@ -1,7 +1,7 @@
-// The words of a command that reads the store of trials.
+// The words of a command that reads the store of trials, and of `restore`.
 ghost use Rattle.std.specs.Prelude.{◌≡◌, ◌∷◌, [], ℕ, List, map, option_and_then, option_map, IfOk};
 ghost use Rattle.std.specs.String.{string_bytes};
-ghost use Rattle.now_words.specs.Command.{evaluation_by, evaluation_of, alone_of, evaluation_query_of, positional_words, query_command, query_of, trial_of};
+ghost use Rattle.now_words.specs.Command.{evaluation_by, evaluation_of, alone_of, evaluation_query_of, positional_words, query_command, query_of, restore_command, trial_of};
 ghost use Rattle.now_words.specs.Parsed.{command_of_code};
 ghost use Rattle.now_words.specs.Positionals.{behind, positionals_from};
 
@@ -112,6 +112,14 @@ fn evaluation_query(verb: &str, given: &[&str]) -> Option<Query>
         let found = evaluation_in(given)?;
         return Some(Query::Replay(found));
     }
+    if verb == "sources" {
+        let found = evaluation_in(given)?;
+        return Some(Query::Sources(found));
+    }
+    if verb == "effects" {
+        let found = evaluation_in(given)?;
+        return Some(Query::Effects(found));
+    }
     None
 }
 
@@ -149,4 +157,18 @@ pub(crate) fn read_query<'w>(
     };
     let query = query_by(verb, given.as_slice());
     Ok(query.map(|query| Command::Reads(query)))
+}
+
+/// The command of the words behind `restore`.
+pub(crate) fn read_restore<'w>(
+    alloc: Global,
+    words: &'w [String],
+) -> Result<Option<Command<'w>>, Memory>
+    ensures { IfOk result (λ found. option_map command_of_code found ≡ restore_command (map string_bytes words.now)) }
+{
+    let Some(given) = positionals(alloc, words)? else {
+        return Ok(None);
+    };
+    let number = trial_in(given.as_slice());
+    Ok(number.map(|number| Command::Restores(number)))
 }

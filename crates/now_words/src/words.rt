@@ -5,7 +5,7 @@ ghost use Rattle.now_words.specs.Command.{run_command, command_of};
 ghost use Rattle.now_words.specs.Parsed.{command_of_code};
 
 use crate::command::Command;
-use crate::query::read_query;
+use crate::query::{read_query, read_restore};
 use crate::reading::Reading;
 use prov_base::Memory;
 use std::alloc::Global;
@@ -33,6 +33,9 @@ pub fn read(alloc: Global, words: &[String]) -> Result<Option<Command<'_>>, Memo
     };
     if verb.as_str() == "run" {
         return read_run(alloc, rest);
+    }
+    if verb.as_str() == "restore" {
+        return read_restore(alloc, rest);
     }
     read_query(alloc, verb.as_str(), rest)
 }

@@ -2,6 +2,7 @@ use Rattle.now_top.proofs.Completing.{reply_so, fine_so, replies_so}
 use Rattle.now_top.proofs.OneMeaning.{slices_alike, answers_alike, one_reply}
 use Rattle.now_top.specs.Reply.{telling, replaying}
 use Rattle.dep_query.specs.Dataflows.{IsDataflow, LacksDataflow}
+use Rattle.dep_query.specs.SiteTexts.{IsFedText, LacksSite}
 use Rattle.trial_replay.specs.Replays.{IsReplayAt}
 use Rattle.trial_value.specs.Values.{IsValueAt, LacksEvaluation}
 use Rattle.now_top.proofs.laws.replies_by_tables.Goals as goal
@@ -14,6 +15,8 @@ returns-clause-one c = one_reply c.trials_are_loaded_one_way.ensures.trial c.tri
     (λ trial other. c.one_value_of_a_trial.ensures.never_both trial other of.at of.k))
     (λ of. answers_alike replaying (IsReplayAt of.at of.k) (LacksEvaluation of.at of.k) (λ trial other. c.one_replay_of_a_trial.ensures.replay trial other of.at of.k)
     (λ trial other. c.one_replay_of_a_trial.ensures.never_both trial other of.at of.k))
+    (λ way of. answers_alike telling (IsFedText way of.at of.k) (LacksSite of.at of.k) (λ trial other. c.one_feeding_of_a_trial.ensures.text trial other way of.at of.k)
+    (λ trial other. c.one_feeding_of_a_trial.ensures.never_both trial other way of.at of.k))
 
 pub returns-clause-replies : goal.returns-clause-replies
 returns-clause-replies c = λ words before after was is status so query tables word told five six seven eight.

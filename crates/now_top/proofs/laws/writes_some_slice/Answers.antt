@@ -2,7 +2,7 @@ use Rattle.std.proofs.Common.{◌≡◌, sym, ap, subst, ◌∙◌, ℕ, ◌++�
 use Rattle.std.proofs.lemmas.Option.{same_Some}
 use Rattle.delivery.specs.Ending.{done, closing_line}
 use Rattle.keeper.specs.Tables.{TablesView}
-use Rattle.now_words.specs.Command.{Command, run_bare, run_kept, reads, command_of}
+use Rattle.now_words.specs.Command.{Command, run_bare, run_kept, reads, restores, command_of}
 use Rattle.now_words.specs.declared.command.Evaluation.{Evaluation}
 use Rattle.now_words.specs.declared.command.Query.{Query}
 use Rattle.now_words.specs.declared.command.Query.TheVariants.{Slice}
@@ -42,6 +42,7 @@ abbrev query_in : Command → Query → Query
 query_in (reads query) other = query
 query_in (run_bare steps file arguments) other = other
 query_in (run_kept steps file arguments) other = other
+query_in (restores number) other = other
 
 same_query : (query other : Query) → ◌≡◌ {A = Option Command} (Some (reads query)) (Some (reads other)) → query ≡ other
 same_query query other same = ap (λ (c : Command). query_in c other) (same_Some (reads query) (reads other) same)
