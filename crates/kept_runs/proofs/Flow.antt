@@ -1,11 +1,12 @@
 -- What an operation answers and writes comes from its operands and from what it reads: functions and classes at known places, objects that are
--- there, and keys. An object that it makes is its answer, and stands nowhere else.
+-- there, and keys. An object that it makes is its answer, and stands nowhere else. What it fetches and opens has a path that a script may open.
 use Rattle.std.specs.Prelude.{◌≡◌, ◌<◌, ◌⊎◌, ⊤, ℕ, Bool, true, List, [], ◌∷◌, slice_get, Option, Some, None}
+use Rattle.prov_base.specs.Path.{is_path}
 use Rattle.prov_base.specs.declared.place.Pos.{Pos}
 use Rattle.py_value.specs.Contents.{Contents, Parts, tuple, function, class, object, no_parts, part}
 use Rattle.py_value.specs.Seen.{SeenLocation, SeenContent, SeenChange, SeenAccess, SeenKind, reads, sets, updates, an_instance, entry_at, var_is, item_is, entry_is, order_is, method_is, base_is, key_inserted, key_deleted, bytes_appended}
 use Rattle.py_model.specs.Plan.{Ask, Given, Found, value, Writes, write, change, move, opens, notes, done, done_at_end, Plan, read_var, read_len, read_item, read_entry, read_order, read_file, read_offset, read_closed, read_method, read_base, kind_of, name_of, was_opened, ask, fetch, looks, counts, prints, writes, makes, raises, raises_again, ends, runs_away}
-use Rattle.py_model.specs.Effect.{Outcome, answered}
+use Rattle.py_model.specs.Effect.{Touch, opened, fetched, Outcome, answered}
 use Rattle.py_model.specs.Store.{RunStore}
 use Rattle.kept_runs.specs.Keys.{IsKey, IsForm, LocationKeys}
 
@@ -87,7 +88,7 @@ module _ (known : Known) where
   WritesKept made (write place content rest) = KeptSet place content × WritesKept made rest
   WritesKept made (change place how rest) = KeptUpdate place how × WritesKept made rest
   WritesKept made (move o from to rest) = WritesKept made rest
-  WritesKept made (opens path rest) = WritesKept made rest
+  WritesKept made (opens path rest) = (is_path path ≡ true) × WritesKept made rest
   WritesKept made (notes place name rest) = WritesKept made rest
   WritesKept made (done answer) = KeptEnd made answer
   WritesKept made done_at_end = ⊤
@@ -108,7 +109,7 @@ module _ (known : Known) where
     from_name : {place : Pos} {go : Option (List ℕ) → Plan} → known.at place ≡ true → ((name : Option (List ℕ)) → Keeps (go name)) → Keeps (name_of place go)
     from_opened : {path : List ℕ} {go : Bool → Plan} → ((b : Bool) → Keeps (go b)) → Keeps (was_opened path go)
     from_ask : {what : Ask} {go : Given → Plan} → ((given : Given) → Keeps (go given)) → Keeps (ask what go)
-    from_fetch : {path : List ℕ} {go : Found → Plan} → ((found : Found) → Keeps (go found)) → Keeps (fetch path go)
+    from_fetch : {path : List ℕ} {go : Found → Plan} → is_path path ≡ true → ((found : Found) → Keeps (go found)) → Keeps (fetch path go)
     with_look : {n : ℕ} {p : Plan} → Keeps p → Keeps (looks n p)
     with_count : {n : ℕ} {p : Plan} → Keeps p → Keeps (counts n p)
     with_print : {bytes : List ℕ} {p : Plan} → Keeps p → Keeps (prints bytes p)
@@ -141,3 +142,13 @@ module _ (known : Known) where
   pub record KeptStore (store : RunStore) : Type 0 where
     pub at : (l : SeenLocation) → KeptFound (store.at l)
     pub kinds : (o : ℕ) → KeptKind (slice_get store.kinds o)
+
+-- what is opened for writing and what is fetched has a path that a script may open
+abbrev pub TouchesPath : Touch → Type 0
+TouchesPath (opened path) = is_path path ≡ true
+TouchesPath (fetched path) = is_path path ≡ true
+TouchesPath other = ⊤
+
+abbrev pub TouchPaths : List Touch → Type 0
+TouchPaths [] = ⊤
+TouchPaths (touch ∷ touches) = TouchesPath touch × TouchPaths touches

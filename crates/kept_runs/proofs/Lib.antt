@@ -17,3 +17,4 @@ mod RowNames
 mod RowKeys
 mod KeptBack
 mod KeptRun
+mod RunPaths

@@ -1,5 +1,5 @@
 -- Files and devices write and answer what they got: they give texts and numbers.
-use Rattle.std.proofs.Common.{refl, ℕ, zero, suc, ℤ, pos, negsuc, Bool, true, false, if◌then◌else◌, List, [], ◌∷◌, drop, Option, Some, None}
+use Rattle.std.proofs.Common.{◌≡◌, refl, ℕ, zero, suc, ℤ, pos, negsuc, Bool, true, false, if◌then◌else◌, List, [], ◌∷◌, drop, Option, Some, None}
 use Rattle.std.specs.Prelude.{◌+ℤ◌, ◌-ℤ◌, ◌%◌, codes}
 use Rattle.std.specs.Str.{bytes_eq, is_utf8}
 use Rattle.prov_base.specs.Path.{is_path}
@@ -35,12 +35,12 @@ module _ (known : Known) where
   by_opened path go true = read_file path go
   by_opened path go false = fetch path (by_found path go)
 
-  by_opened_sound : (path : List ℕ) {go : Option (List ℕ) → Plan} → OfContent go → (b : Bool) → Sound known (by_opened path go b)
-  by_opened_sound path each true = from_file each
-  by_opened_sound path each false = from_fetch (by_found_sound path each)
+  by_opened_sound : (path : List ℕ) {go : Option (List ℕ) → Plan} → is_path path ≡ true → OfContent go → (b : Bool) → Sound known (by_opened path go b)
+  by_opened_sound path good each true = from_file each
+  by_opened_sound path good each false = from_fetch good (by_found_sound path each)
 
-  with_file_sound : (path : List ℕ) {go : Option (List ℕ) → Plan} → OfContent go → Sound known (with_file path go)
-  with_file_sound path each = from_opened (by_opened_sound path each)
+  with_file_sound : (path : List ℕ) {go : Option (List ℕ) → Plan} → is_path path ≡ true → OfContent go → Sound known (with_file path go)
+  with_file_sound path good each = from_opened (by_opened_sound path good each)
 
   abbrev to_read : List ℕ → Option (List ℕ) → Plan
   to_read path (Some bytes) = makes (a_file path Read) begun
@@ -54,18 +54,22 @@ module _ (known : Known) where
   to_append path (Some bytes) = makes (a_file path Append) (λ o. opens path (begun o))
   to_append path None = makes (a_file path Append) (λ o. write (file_at path) (file_is []) (opens path (begun o)))
 
-  to_append_sound : (path : List ℕ) → OfContent (to_append path)
-  to_append_sound path (Some bytes) = by_make tt (λ o. (tt, (tt, refl)))
-  to_append_sound path None = by_make tt (λ o. (tt, (tt, (tt, refl))))
+  to_append_sound : (path : List ℕ) → is_path path ≡ true → OfContent (to_append path)
+  to_append_sound path good (Some bytes) = by_make tt (λ o. (good, (tt, (tt, refl))))
+  to_append_sound path good None = by_make tt (λ o. (tt, (good, (tt, (tt, refl)))))
 
-  at_path_sound : (path : List ℕ) {plan : Plan} → Sound known plan → Sound known (if is_path path then plan else fault os_error (codes "bad path"))
-  at_path_sound path going = sound_if known (is_path path) going faulted
+  at_path_sound : (path : List ℕ) {plan : Plan} → (is_path path ≡ true → Sound known plan) → Sound known (if is_path path then plan else fault os_error (codes "bad path"))
+  at_path_sound path {plan = plan} going = by_test (is_path path) going
+    where
+      by_test : (b : Bool) → (b ≡ true → Sound known plan) → Sound known (if b then plan else fault os_error (codes "bad path"))
+      by_test true going = going refl
+      by_test false going = faulted
 
   open_with_sound : (path mode : List ℕ) → Sound known (open_with path mode)
   open_with_sound path mode =
-      sound_if known (bytes_eq mode (codes "r")) (at_path_sound path (with_file_sound path (to_read_sound path)))
-      (sound_if known (bytes_eq mode (codes "w")) (at_path_sound path (by_make tt (λ o. (tt, (tt, (tt, refl))))))
-      (sound_if known (bytes_eq mode (codes "a")) (at_path_sound path (with_file_sound path (to_append_sound path))) faulted))
+      sound_if known (bytes_eq mode (codes "r")) (at_path_sound path (λ good. with_file_sound path good (to_read_sound path)))
+      (sound_if known (bytes_eq mode (codes "w")) (at_path_sound path (λ good. by_make tt (λ o. (tt, (good, (tt, (tt, refl)))))))
+      (sound_if known (bytes_eq mode (codes "a")) (at_path_sound path (λ good. with_file_sound path good (to_append_sound path good))) faulted))
 
   pub open_sound : OfAll known open_plan
   open_sound (text path ∷ []) all = open_with_sound path (codes "r")

@@ -17,7 +17,7 @@ use Rattle.py_model.specs.Effect.{Touch, accessed, looked, counted, printed, ope
 use Rattle.py_model.specs.Effect.{with_made as store_with}
 use Rattle.py_model.specs.History.{entered_by}
 use Rattle.py_model.specs.Meaning.{level, meaning, at_start, starting}
-use Rattle.py_model.specs.Moment.{Moment, begins, does, enters, leaves, ends, parameters_set}
+use Rattle.py_model.specs.Moment.{Moment, Ending, begins, does, enters, leaves, ends, parameters_set}
 use Rattle.py_model.specs.Operations.{Op, plan}
 use Rattle.py_model.specs.Plan.{Answer}
 use Rattle.py_model.specs.Renaming.{Renaming, renamed_list}
@@ -147,7 +147,7 @@ module _ (count objects scopes : ℕ) (some : 0 < objects) (any : 0 < scopes) wh
     AllNamed (moment ∷ before) = IsFine moment before × AllNamed before
 
     -- once a count is passed, it stays so
-    abbrev IsPast : List Moment → Type 0
+    abbrev pub IsPast : List Moment → Type 0
     IsPast told = AllNamed told × ((objects < objects_after told) ⊎ (scopes < scopes_after told))
 
     more_objects : (moment : Moment) (told : List Moment) → objects_after told ≤ objects_after (moment ∷ told)
@@ -164,7 +164,7 @@ module _ (count objects scopes : ℕ) (some : 0 < objects) (any : 0 < scopes) wh
     more_scopes (leaves v) told = omega arith
     more_scopes (ends number ended) told = omega arith
 
-    past_more : (moment : Moment) (told : List Moment) → IsPast told → IsPast (moment ∷ told)
+    pub past_more : (moment : Moment) (told : List Moment) → IsPast told → IsPast (moment ∷ told)
     past_more moment told is = by_over is.1
       where
         by_over : (objects < objects_after told) ⊎ (scopes < scopes_after told) → IsPast (moment ∷ told)
@@ -183,7 +183,7 @@ module _ (count objects scopes : ℕ) (some : 0 < objects) (any : 0 < scopes) wh
       pub others : scopes_after told ≤ scopes
 
     -- what an effect names is below the counts, or with it there is one object too many
-    data Came (e : Effect) (store : RunStore) : Type 0 where
+    pub data Came (e : Effect) (store : RunStore) : Type 0 where
       came_below : EffectBelow objects scopes e → with_made e.made (length store.kinds) ≤ objects → Came e store
       came_over : objects < with_made e.made (length store.kinds) → Came e store
 
@@ -204,12 +204,12 @@ module _ (count objects scopes : ℕ) (some : 0 < objects) (any : 0 < scopes) wh
             by_room false none = came_over (subst (λ made. objects < with_made made (length store.kinds)) (sym made_is) (omega (arith, ltb-false (length store.kinds) objects none)))
 
     -- an effect where no count is passed
-    record Ready (e : Effect) (told : List Moment) (entered : ℕ) (store : RunStore) : Type 0 where
+    pub record Ready (e : Effect) (told : List Moment) (entered : ℕ) (store : RunStore) : Type 0 where
       pub held : Holds told entered store
       pub flow : Flows (all_known objects some) store held.stands e
       pub came : Came e store
 
-    ready : (op : Op) (values : List Contents) (answers : Answers) (told : List Moment) (entered : ℕ) (store : RunStore) → OpBelow count objects scopes op → AllBelow objects values → Holds told entered store
+    pub ready : (op : Op) (values : List Contents) (answers : Answers) (told : List Moment) (entered : ℕ) (store : RunStore) → OpBelow count objects scopes op → AllBelow objects values → Holds told entered store
         → Ready (effect store answers (plan op values)) told entered store
     ready op values answers told entered store small all held = record {
       held = held;
@@ -219,11 +219,11 @@ module _ (count objects scopes : ℕ) (some : 0 < objects) (any : 0 < scopes) wh
     }
 
     -- what becomes of an operation
-    data Did (answer : Answer) (t : State) : Type 0 where
+    pub data Did (answer : Answer) (t : State) : Type 0 where
       did_below : AnswerBelow objects answer → Holds t.told t.entered t.store → Did answer t
       did_over : IsPast t.told → Did answer t
 
-    abbrev Happens : Happened → Type 0
+    abbrev pub Happens : Happened → Type 0
     Happens (did answer came t) = Did answer t
     Happens (too_dear t) = AllNamed t.told
     Happens (lacked t) = AllNamed t.told
@@ -273,7 +273,7 @@ module _ (count objects scopes : ℕ) (some : 0 < objects) (any : 0 < scopes) wh
     happens at op values e unanswered u is all it = it.held.all
     happens at op values e unpaid u is all it = it.held.all
 
-    operates : (at : Pos) (op : Op) (values : List Contents) (s : State) → OpBelow count objects scopes op → AllBelow objects values → Holds s.told s.entered s.store → Happens (operation capture at op values s)
+    pub operates : (at : Pos) (op : Op) (values : List Contents) (s : State) → OpBelow count objects scopes op → AllBelow objects values → Holds s.told s.entered s.store → Happens (operation capture at op values s)
     operates at op values s small all held = by_left (nat_le 1 s.left)
       where
         e : Effect
@@ -310,6 +310,54 @@ module _ (count objects scopes : ℕ) (some : 0 < objects) (any : 0 < scopes) wh
     params_kept at def a params vs all =
         let fine : AccessesBefore objects (parameters_set a params vs) × AccessesKeys (parameters_set a params vs) = params_fine a params vs all in ((all, fine.0), fine.1)
 
+    -- one step more, where no count is passed by it
+    pub begin_holds : (n : ℕ) (s : State) → n < count → Holds s.told s.entered s.store → Holds (beginning n s).told (beginning n s).entered (beginning n s).store
+    begin_holds n s small held = record {
+      stands = held.stands;
+      counted = held.counted;
+      entered_is = held.entered_is;
+      all = (((λ few others. (small, tt)), (λ few others. (tt, tt))), held.all);
+      few = held.few;
+      others = held.others;
+    }
+
+    pub close_holds : (n : ℕ) (ending : Ending) (s : State) → Holds s.told s.entered s.store → Holds (ends n ending ∷ s.told) s.entered s.store
+    close_holds n ending s held = record {
+      stands = held.stands;
+      counted = held.counted;
+      entered_is = held.entered_is;
+      all = (((λ few others. (tt, tt)), (λ few others. (tt, tt))), held.all);
+      few = held.few;
+      others = held.others;
+    }
+
+    pub leave_holds : (v : Contents) (s : State) → ValueBelow objects v → Holds s.told s.entered s.store → Holds (leaves v ∷ s.told) s.entered s.store
+    leave_holds v s small held = record {
+      stands = held.stands;
+      counted = held.counted;
+      entered_is = held.entered_is;
+      all = (((λ few others. (tt, small)), (λ few others. (small, tt))), held.all);
+      few = held.few;
+      others = held.others;
+    }
+
+    pub enter_holds : (at def : Pos) (params : List (List ℕ)) (vs : List Contents) (s : State) → suc s.entered < scopes → AllBelow objects vs → Holds s.told s.entered s.store
+        → Holds (entering at def params vs s).told (entering at def params vs s).entered (entering at def params vs s).store
+    enter_holds at def params vs s there all held = record {
+      stands = record { at = params_below (suc s.entered) params vs s.store.at (all_kept objects some vs all) held.stands.at; kinds = held.stands.kinds };
+      counted = held.counted;
+      entered_is = ap suc held.entered_is;
+      all = (((λ few others. (tt, (all, params_named (suc s.entered) params vs there all))), (λ few others. params_kept at def (suc s.entered) params vs all)), held.all);
+      few = held.few;
+      others = omega (arith, there, held.entered_is);
+    }
+
+    pub enter_past : (at def : Pos) (params : List (List ℕ)) (vs : List Contents) (s : State) → scopes ≤ suc s.entered → AllBelow objects vs → Holds s.told s.entered s.store
+        → IsPast (entering at def params vs s).told
+    enter_past at def params vs s none all held =
+        let over : scopes < scopes_after (entering at def params vs s).told = omega (arith, none, held.entered_is) in
+        ((((λ few others. absurd (omega (arith, others, over))), (λ few others. params_kept at def (suc s.entered) params vs all)), held.all), inr over)
+
     past_on : (a : Act) (s : State) → IsPast s.told → AllNamed (state_in (outcome capture a s)).told
     past_on a s past = (runs_more capture IsPast past_more a s past).0
 
@@ -330,26 +378,12 @@ module _ (count objects scopes : ℕ) (some : 0 < objects) (any : 0 < scopes) wh
         by_happened (did answer came t) there on = by_did answer came t there (on answer came t)
         by_happened (too_dear t) there on = there
         by_happened (lacked t) there on = there
-    runs (nm_begin {n = n} {a = a} small rest) s held = by_left (nat_le 1 s.left) (runs rest (beginning n s) (record {
-      stands = held.stands;
-      counted = held.counted;
-      entered_is = held.entered_is;
-      all = (((λ few others. (small, tt)), (λ few others. (tt, tt))), held.all);
-      few = held.few;
-      others = held.others;
-    }))
+    runs (nm_begin {n = n} {a = a} small rest) s held = by_left (nat_le 1 s.left) (runs rest (beginning n s) (begin_holds n s small held))
       where
         by_left : (b : Bool) → AllNamed (state_in (outcome capture a (beginning n s))).told → AllNamed (state_in (if b then outcome capture a (beginning n s) else spent s)).told
         by_left true on = on
         by_left false on = held.all
-    runs (nm_close {n = n} {ending = ending} rest) s held = runs rest (tell (ends n ending) s) (record {
-      stands = held.stands;
-      counted = held.counted;
-      entered_is = held.entered_is;
-      all = (((λ few others. (tt, tt)), (λ few others. (tt, tt))), held.all);
-      few = held.few;
-      others = held.others;
-    })
+    runs (nm_close {n = n} {ending = ending} rest) s held = runs rest (tell (ends n ending) s) (close_holds n ending s held)
     runs (nm_enter {at = at} {def = def} {params = params} {vs = vs} {f = f} all next) s held =
         by_left (nat_le (suc (length vs)) s.left) (by_room (nat_lt (suc s.entered) scopes) refl (λ there. runs (next (suc s.entered) there) (entering at def params vs s)))
       where
@@ -357,31 +391,15 @@ module _ (count objects scopes : ℕ) (some : 0 < objects) (any : 0 < scopes) wh
             → (suc s.entered < scopes → Holds (entering at def params vs s).told (entering at def params vs s).entered (entering at def params vs s).store → AllNamed (state_in (outcome capture (f (suc s.entered)) (entering at def params vs s))).told)
             → AllNamed (state_in (outcome capture (f (suc s.entered)) (entering at def params vs s))).told
         by_room true room on =
-            let there : suc s.entered < scopes = ltb-true (suc s.entered) scopes room in
-            on there (record {
-              stands = record { at = params_below (suc s.entered) params vs s.store.at (all_kept objects some vs all) held.stands.at; kinds = held.stands.kinds };
-              counted = held.counted;
-              entered_is = ap suc held.entered_is;
-              all = (((λ few others. (tt, (all, params_named (suc s.entered) params vs there all))), (λ few others. params_kept at def (suc s.entered) params vs all)), held.all);
-              few = held.few;
-              others = omega (arith, there, held.entered_is);
-            })
+            let there : suc s.entered < scopes = ltb-true (suc s.entered) scopes room in on there (enter_holds at def params vs s there all held)
         by_room false none on =
-            let over : scopes < scopes_after (entering at def params vs s).told = omega (arith, ltb-false (suc s.entered) scopes none, held.entered_is) in
-            past_on (f (suc s.entered)) (entering at def params vs s) ((((λ few others. absurd (omega (arith, others, over))), (λ few others. params_kept at def (suc s.entered) params vs all)), held.all), inr over)
+            past_on (f (suc s.entered)) (entering at def params vs s) (enter_past at def params vs s (ltb-false (suc s.entered) scopes none) all held)
 
         by_left : (b : Bool) → AllNamed (state_in (outcome capture (f (suc s.entered)) (entering at def params vs s))).told
             → AllNamed (state_in (if b then outcome capture (f (suc s.entered)) (entering at def params vs s) else spent s)).told
         by_left true on = on
         by_left false on = held.all
-    runs (nm_leave {v = v} small rest) s held = runs rest (tell (leaves v) s) (record {
-      stands = held.stands;
-      counted = held.counted;
-      entered_is = held.entered_is;
-      all = (((λ few others. (tt, small)), (λ few others. (small, tt))), held.all);
-      few = held.few;
-      others = held.others;
-    })
+    runs (nm_leave {v = v} small rest) s held = runs rest (tell (leaves v) s) (leave_holds v s small held)
 
     -- where a run begins
     unset_below : (l : SeenLocation) → KeptFound (all_known objects some) (unset l)
@@ -404,7 +422,7 @@ module _ (count objects scopes : ℕ) (some : 0 < objects) (any : 0 < scopes) wh
     items_below i [] map is = is
     items_below i (word ∷ words) map is = put_kept (all_known objects some) (item_at 0 i) (item_is (text word)) (with_items 0 (i + 1) words map) tt (items_below (i + 1) words map is)
 
-    opening_below : (path : List ℕ) (arguments : List (List ℕ)) (files : List (List ℕ × List ℕ)) → KeptStore (all_known objects some) (opening path arguments files)
+    pub opening_below : (path : List ℕ) (arguments : List (List ℕ)) (files : List (List ℕ × List ℕ)) → KeptStore (all_known objects some) (opening path arguments files)
     opening_below path arguments files = record {
       at = put_kept (all_known objects some) (var_at 0 (codes "__name__")) (var_is (Some (text (codes "__main__")))) (put (len_at 0) (len_is (length arguments + 1)) (with_items 0 0 (path ∷ arguments) (with_files files unset))) tt
           (put_kept (all_known objects some) (len_at 0) (len_is (length arguments + 1)) (with_items 0 0 (path ∷ arguments) (with_files files unset)) tt
@@ -416,13 +434,15 @@ module _ (count objects scopes : ℕ) (some : 0 < objects) (any : 0 < scopes) wh
         first_kind zero = tt
         first_kind (suc o) = tt
 
+    pub start_holds : (path : List ℕ) (arguments : List (List ℕ)) (steps : ℕ) → Holds [] 0 (starting capture path arguments steps).store
+    start_holds path arguments steps = record { stands = opening_below path arguments (with_bytes capture.files); counted = refl; entered_is = refl; all = tt; few = some; others = any }
+
     pub all_named : (script : ScriptTree) (path : List ℕ) (arguments : List (List ℕ)) (steps : ℕ) → SuiteBelow count script.body
         → AllNamed (state_in (outcome capture (meaning script steps) (starting capture path arguments steps))).told
     all_named script path arguments steps every =
         runs (suite_k count objects scopes script (found_known count objects scopes script every) (level script (suc steps))
         (levels_k count objects scopes script (found_known count objects scopes script every) (suc steps)) at_start (tt, (tt, tt)) script.body every)
-        (starting capture path arguments steps)
-        (record { stands = opening_below path arguments (with_bytes capture.files); counted = refl; entered_is = refl; all = tt; few = some; others = any })
+        (starting capture path arguments steps) (start_holds path arguments steps)
 
     pub fine_at : (news before : List Moment) (moment : Moment) → AllNamed (news ++ moment ∷ before) → IsFine moment before
     fine_at [] before moment all = all.0

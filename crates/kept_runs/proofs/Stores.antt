@@ -13,7 +13,7 @@ use Rattle.py_model.specs.Store.{RunStore, empty, var_of, item_of, entry_of, ord
 use Rattle.kept_runs.specs.Keys.{LocationKeys}
 use Rattle.kept_runs.proofs.Forms.{form_of}
 use Rattle.kept_runs.proofs.Walking.{tuple_kept}
-use Rattle.kept_runs.proofs.Flow.{Known, KeptKey, KeptKeys, KeptSet, KeptUpdate, KeptAccesses, KeptValue, KeptOption, KeptEntry, KeptPlace, KeptKind, KeptContent, KeptChange, WritesKept, Keeps, from_var, from_len, from_item, from_entry, from_order, from_file, from_offset, from_closed, from_method, from_base, from_kind, from_name, from_opened, from_ask, from_fetch, with_look, with_count, with_print, by_writes, by_make, by_raise, by_again, by_end, by_run_away, KeptFound, KeptStore, KeptOutcome}
+use Rattle.kept_runs.proofs.Flow.{Known, KeptKey, KeptKeys, KeptSet, KeptUpdate, KeptAccesses, KeptValue, KeptOption, KeptEntry, KeptPlace, KeptKind, KeptContent, KeptChange, WritesKept, Keeps, from_var, from_len, from_item, from_entry, from_order, from_file, from_offset, from_closed, from_method, from_base, from_kind, from_name, from_opened, from_ask, from_fetch, with_look, with_count, with_print, by_writes, by_make, by_raise, by_again, by_end, by_run_away, KeptFound, KeptStore, KeptOutcome, TouchPaths}
 
 module _ (known : Known) where
   -- maps
@@ -147,9 +147,10 @@ module _ (known : Known) where
       pub accesses : KeptAccesses known (accesses_in e.touches)
       pub made : KeptKind known e.made
       pub outcome : KeptOutcome known (length store.kinds) e.outcome
+      pub paths : TouchPaths e.touches
 
     read_first : (l : SeenLocation) {e : Effect} → LocationKeys l → Flows e → Flows (touching (accessed (reads l)) e)
-    read_first l is flow = record { accesses = (is, flow.accesses); made = flow.made; outcome = flow.outcome }
+    read_first l is flow = record { accesses = (is, flow.accesses); made = flow.made; outcome = flow.outcome; paths = (tt, flow.paths) }
 
     -- an object that is made has the next number
     abbrev NextOf : Option SeenKind → Option ℕ
@@ -157,15 +158,15 @@ module _ (known : Known) where
     NextOf (Some kind) = Some (length store.kinds)
 
     written_flows : (made : Option SeenKind) (all : Writes) → KeptKind known made → WritesKept known (NextOf made) all → Flows (written store made all)
-    written_flows made (write l content rest) of all = let flow : Flows (written store made rest) = written_flows made rest of all.1 in record { accesses = (all.0, flow.accesses); made = flow.made; outcome = flow.outcome }
-    written_flows made (change l how rest) of all = let flow : Flows (written store made rest) = written_flows made rest of all.1 in record { accesses = (all.0, flow.accesses); made = flow.made; outcome = flow.outcome }
+    written_flows made (write l content rest) of all = let flow : Flows (written store made rest) = written_flows made rest of all.1 in record { accesses = (all.0, flow.accesses); made = flow.made; outcome = flow.outcome; paths = (tt, flow.paths) }
+    written_flows made (change l how rest) of all = let flow : Flows (written store made rest) = written_flows made rest of all.1 in record { accesses = (all.0, flow.accesses); made = flow.made; outcome = flow.outcome; paths = (tt, flow.paths) }
     written_flows made (move o from to rest) of all =
-        let flow : Flows (written store made rest) = written_flows made rest of all in record { accesses = (tt, (moved_kept (item_of store o from) (item_read o from), flow.accesses)); made = flow.made; outcome = flow.outcome }
-    written_flows made (opens path rest) of all = let flow : Flows (written store made rest) = written_flows made rest of all in record { accesses = flow.accesses; made = flow.made; outcome = flow.outcome }
-    written_flows made (notes place name rest) of all = let flow : Flows (written store made rest) = written_flows made rest of all in record { accesses = flow.accesses; made = flow.made; outcome = flow.outcome }
-    written_flows None (done answer) of all = record { accesses = tt; made = of; outcome = inl all }
-    written_flows (Some kind) (done answer) of all = record { accesses = tt; made = of; outcome = inr all }
-    written_flows made done_at_end of all = record { accesses = tt; made = of; outcome = tt }
+        let flow : Flows (written store made rest) = written_flows made rest of all in record { accesses = (tt, (moved_kept (item_of store o from) (item_read o from), flow.accesses)); made = flow.made; outcome = flow.outcome; paths = (tt, (tt, flow.paths)) }
+    written_flows made (opens path rest) of all = let flow : Flows (written store made rest) = written_flows made rest of all.1 in record { accesses = flow.accesses; made = flow.made; outcome = flow.outcome; paths = (all.0, flow.paths) }
+    written_flows made (notes place name rest) of all = let flow : Flows (written store made rest) = written_flows made rest of all in record { accesses = flow.accesses; made = flow.made; outcome = flow.outcome; paths = (tt, flow.paths) }
+    written_flows None (done answer) of all = record { accesses = tt; made = of; outcome = inl all; paths = tt }
+    written_flows (Some kind) (done answer) of all = record { accesses = tt; made = of; outcome = inr all; paths = tt }
+    written_flows made done_at_end of all = record { accesses = tt; made = of; outcome = tt; paths = tt }
 
     module _ (answers : Answers) where
       pub flows : (p : Plan) → Keeps known p → Flows (effect store answers p)
@@ -185,22 +186,22 @@ module _ (known : Known) where
       flows _ (from_ask {what = what} {go = go} each) = by_given (answers.given what) (λ given. flows _ (each given))
         where
           by_given : (given : Option Given) → ((v : Given) → Flows (effect store answers (go v))) → Flows (touching (asked what) (elim given [ None ↦ lacking store | Some v ↦ effect store answers (go v) ]))
-          by_given None all = record { accesses = tt; made = tt; outcome = tt }
-          by_given (Some v) all = record { accesses = (all v).accesses; made = (all v).made; outcome = (all v).outcome }
-      flows _ (from_fetch {path = path} {go = go} each) = by_found (answers.found path) (λ found. flows _ (each found))
+          by_given None all = record { accesses = tt; made = tt; outcome = tt; paths = (tt, tt) }
+          by_given (Some v) all = record { accesses = (all v).accesses; made = (all v).made; outcome = (all v).outcome; paths = (tt, (all v).paths) }
+      flows _ (from_fetch {path = path} {go = go} good each) = by_found (answers.found path) (λ found. flows _ (each found))
         where
           by_found : (found : Option Found) → ((v : Found) → Flows (effect store answers (go v))) → Flows (touching (fetched path) (elim found [ None ↦ lacking store | Some v ↦ effect store answers (go v) ]))
-          by_found None all = record { accesses = tt; made = tt; outcome = tt }
-          by_found (Some v) all = record { accesses = (all v).accesses; made = (all v).made; outcome = (all v).outcome }
-      flows _ (with_look rest) = let flow = flows _ rest in record { accesses = flow.accesses; made = flow.made; outcome = flow.outcome }
-      flows _ (with_count rest) = let flow = flows _ rest in record { accesses = flow.accesses; made = flow.made; outcome = flow.outcome }
-      flows _ (with_print rest) = let flow = flows _ rest in record { accesses = flow.accesses; made = flow.made; outcome = flow.outcome }
+          by_found None all = record { accesses = tt; made = tt; outcome = tt; paths = (good, tt) }
+          by_found (Some v) all = record { accesses = (all v).accesses; made = (all v).made; outcome = (all v).outcome; paths = (good, (all v).paths) }
+      flows _ (with_look rest) = let flow = flows _ rest in record { accesses = flow.accesses; made = flow.made; outcome = flow.outcome; paths = (tt, flow.paths) }
+      flows _ (with_count rest) = let flow = flows _ rest in record { accesses = flow.accesses; made = flow.made; outcome = flow.outcome; paths = (tt, flow.paths) }
+      flows _ (with_print rest) = let flow = flows _ rest in record { accesses = flow.accesses; made = flow.made; outcome = flow.outcome; paths = (tt, flow.paths) }
       flows _ (by_writes {all = all} so) = written_flows None all tt so
       flows _ (by_make {kind = kind} {all = all} of so) = written_flows (Some kind) (all (length store.kinds)) of (so (length store.kinds))
-      flows _ (by_raise {items = items} of all) = record { accesses = ((((tt, refl), tt)), (((refl, refl), ((tt, refl), tuple_kept known items all)), tt)); made = of; outcome = tt }
-      flows _ by_again = record { accesses = tt; made = tt; outcome = tt }
-      flows _ by_end = record { accesses = tt; made = tt; outcome = tt }
-      flows _ by_run_away = record { accesses = tt; made = tt; outcome = tt }
+      flows _ (by_raise {items = items} of all) = record { accesses = ((((tt, refl), tt)), (((refl, refl), ((tt, refl), tuple_kept known items all)), tt)); made = of; outcome = tt; paths = (tt, (tt, tt)) }
+      flows _ by_again = record { accesses = tt; made = tt; outcome = tt; paths = tt }
+      flows _ by_end = record { accesses = tt; made = tt; outcome = tt; paths = tt }
+      flows _ by_run_away = record { accesses = tt; made = tt; outcome = tt; paths = tt }
 
   pub store_stays_kept : (e : Effect) (store : RunStore) (is : KeptStore known store) → Flows store is e → KeptStore known (after e store)
   store_stays_kept e store is flow = touches_kept e.touches (with_made e.made store) flow.accesses (made_kept e.made store flow.made is)

@@ -10,6 +10,7 @@ ghost use Rattle.recorder.specs.MomentRows.{rows as rows_of};
 ghost use Rattle.row_checks.specs.KeptRows.{AreKeptRows};
 ghost use Rattle.kept_runs.specs.Below.{StatementBelow, MomentBelow, MomentBefore, objects_after, scopes_after};
 ghost use Rattle.kept_runs.specs.Keys.{MomentKeys};
+ghost use Rattle.kept_runs.specs.Paths.{ArePaths};
 
 use py_model::{corresponding_operands_have_alike_plans, moments_nest};
 use row_moments::rows_nest_as_moments;
@@ -40,6 +41,16 @@ pub fn runs_have_keys()
         → (news before : List Moment) (moment : Moment)
         → (state_in (outcome capture (meaning script steps) (starting capture path arguments steps))).told ≡ news ++ moment ∷ before
         → MomentKeys moment }
+{
+    corresponding_operands_have_alike_plans();
+}
+
+/// The law of paths: what a run fetches, and what it opens for writing, has a path that a script may open.
+pub fn runs_open_paths_alone()
+    ensures fetched { (script : ScriptTree) (capture : Capture) (path : List ℕ) (arguments : List (List ℕ)) (steps : ℕ) → IsNumbered script
+        → ArePaths (state_in (outcome capture (meaning script steps) (starting capture path arguments steps))).fetches }
+    ensures opened { (script : ScriptTree) (capture : Capture) (path : List ℕ) (arguments : List (List ℕ)) (steps : ℕ) → IsNumbered script
+        → ArePaths (state_in (outcome capture (meaning script steps) (starting capture path arguments steps))).store.opened }
 {
     corresponding_operands_have_alike_plans();
 }

@@ -1,0 +1,8 @@
+use Rattle.kept_runs.proofs.RunPaths.{paths_in}
+use Rattle.kept_runs.proofs.laws.runs_open_paths_alone.Goals as goal
+
+pub returns-clause-fetched : goal.returns-clause-fetched
+returns-clause-fetched c script capture path arguments steps numbered = (paths_in c.corresponding_operands_have_alike_plans.ensures script capture path arguments steps numbered).0
+
+pub returns-clause-opened : goal.returns-clause-opened
+returns-clause-opened c script capture path arguments steps numbered = (paths_in c.corresponding_operands_have_alike_plans.ensures script capture path arguments steps numbered).1
