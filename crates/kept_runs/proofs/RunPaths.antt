@@ -1,5 +1,8 @@
 -- In every run what is fetched and what is opened for writing has a path that a script may open.
-use Rattle.std.proofs.Common.{◌≡◌, ◌⊎◌, inl, inr, ◌<◌, ◌≤◌, ℕ, suc, Bool, true, false, if◌then◌else◌, List, [], ◌∷◌, ◌++◌, nat_le, nat_lt, length, Option, Some, None, refl, subst, arith, ltb-true, ltb-false}
+use Rattle.std.proofs.Common.{◌≡◌, ◌⊎◌, inl, inr, ◌<◌, ◌≤◌, ℕ, suc, Bool, true, false, if◌then◌else◌, List, [], ◌∷◌, ◌++◌, nat_le, nat_lt, length, bytes_eq, Option, Some, None, refl, sym, subst, arith, ltb-true, ltb-false}
+use Rattle.std.specs.Prelude.{⊤}
+use Rattle.std.specs.Cmp.Lexicographic.{bytes_decides}
+use Rattle.std.proofs.lemmas.Bool.{false≢true}
 use Rattle.prov_base.specs.Path.{is_path}
 use Rattle.prov_base.specs.declared.place.Pos.{Pos}
 use Rattle.py_tree.specs.Numbering.{IsNumbered}
@@ -19,11 +22,23 @@ use Rattle.py_model.specs.Renaming.{Renaming, renamed_list}
 use Rattle.py_model.specs.Running.{State, spent, lacking, state_in, Happened, did, too_dear, lacked, askings_at, note, walked, performed, happened, effect_of, operation, outcome, beginning, entering, tell}
 use Rattle.py_model.specs.Store.{RunStore, has_path, with_path}
 use Rattle.kept_runs.specs.Below.{AllBelow, AnswerBelow, objects_after, scopes_after}
-use Rattle.kept_runs.specs.Paths.{ArePaths}
 use Rattle.kept_runs.proofs.Flow.{TouchPaths}
 use Rattle.kept_runs.proofs.Rules.{suite_k, levels_k, found_known}
-use Rattle.kept_runs.proofs.Runs.{runs_more, Holds, Ready, ready, Did, did_below, did_over, IsPast, past_more, Happens, operates, begin_holds, close_holds, leave_holds, enter_holds, enter_past, start_holds, is_there}
+use Rattle.kept_runs.proofs.Runs.{runs_more, Holds, ready, Did, did_below, did_over, IsPast, past_more, Happens, operates, begin_holds, close_holds, leave_holds, enter_holds, enter_past, start_holds, is_there}
 use Rattle.kept_runs.proofs.Trees.{OpBelow, Names, nm_ret, nm_stop, nm_perform, nm_begin, nm_close, nm_enter, nm_leave, SuiteBelow, suite_below}
+
+-- each of these is a path that a script may open
+abbrev pub ArePaths : List (List ℕ) → Type 0
+ArePaths [] = ⊤
+ArePaths (path ∷ paths) = (is_path path ≡ true) × ArePaths paths
+
+pub one_of : (paths : List (List ℕ)) (one : List ℕ) → ArePaths paths → has_path one paths ≡ true → is_path one ≡ true
+one_of [] one all among = absurd (false≢true among)
+one_of (path ∷ paths) one all among = by (bytes_eq one path) refl among (one_of paths one all.1)
+  where
+    by : (b : Bool) → bytes_eq one path ≡ b → (if b then true else has_path one paths) ≡ true → (has_path one paths ≡ true → is_path one ≡ true) → is_path one ≡ true
+    by true same among rest = subst (λ (it : List ℕ). is_path it ≡ true) (sym ((bytes_decides one path).0 same)) all.0
+    by false other among rest = rest among
 
 -- ---- what is touched, and what is noted of it
 

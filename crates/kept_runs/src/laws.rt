@@ -1,16 +1,17 @@
 // The laws of the numbers and keys in a run, each a function without code that says it.
-ghost use Rattle.std.specs.Prelude.{◌≡◌, ◌++◌, ◌∷◌, ℕ, List};
+ghost use Rattle.std.specs.Prelude.{◌≡◌, ◌++◌, ◌∷◌, ℕ, true, List};
+ghost use Rattle.prov_base.specs.Path.{is_path};
 ghost use Rattle.py_model.specs.Capture.{Capture};
 ghost use Rattle.py_model.specs.Meaning.{meaning, starting, run};
 ghost use Rattle.py_model.specs.Moment.{Moment};
 ghost use Rattle.py_model.specs.Running.{outcome, state_in};
+ghost use Rattle.py_model.specs.Store.{has_path};
 ghost use Rattle.py_tree.specs.Numbering.{IsNumbered};
 ghost use Rattle.py_tree.specs.Tree.{ScriptTree};
 ghost use Rattle.recorder.specs.MomentRows.{rows as rows_of};
 ghost use Rattle.row_checks.specs.KeptRows.{AreKeptRows};
 ghost use Rattle.kept_runs.specs.Below.{StatementBelow, MomentBelow, MomentBefore, objects_after, scopes_after};
 ghost use Rattle.kept_runs.specs.Keys.{MomentKeys};
-ghost use Rattle.kept_runs.specs.Paths.{ArePaths};
 
 use py_model::{corresponding_operands_have_alike_plans, moments_nest};
 use row_moments::rows_nest_as_moments;
@@ -48,9 +49,9 @@ pub fn runs_have_keys()
 /// The law of paths: what a run fetches, and what it opens for writing, has a path that a script may open.
 pub fn runs_open_paths_alone()
     ensures fetched { (script : ScriptTree) (capture : Capture) (path : List ℕ) (arguments : List (List ℕ)) (steps : ℕ) → IsNumbered script
-        → ArePaths (state_in (outcome capture (meaning script steps) (starting capture path arguments steps))).fetches }
+        → (one : List ℕ) → has_path one (state_in (outcome capture (meaning script steps) (starting capture path arguments steps))).fetches ≡ true → is_path one ≡ true }
     ensures opened { (script : ScriptTree) (capture : Capture) (path : List ℕ) (arguments : List (List ℕ)) (steps : ℕ) → IsNumbered script
-        → ArePaths (state_in (outcome capture (meaning script steps) (starting capture path arguments steps))).store.opened }
+        → (one : List ℕ) → has_path one (state_in (outcome capture (meaning script steps) (starting capture path arguments steps))).store.opened ≡ true → is_path one ≡ true }
 {
     corresponding_operands_have_alike_plans();
 }
