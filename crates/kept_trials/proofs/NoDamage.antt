@@ -6,7 +6,7 @@ use Rattle.std.proofs.lemmas.Option.{same_Some}
 use Rattle.content_store.specs.Contents.{digest_of}
 use Rattle.keeper.specs.declared.records.Head.{Head}
 use Rattle.keeper.specs.declared.records.Page.{Page}
-use Rattle.keeper.specs.Tables.{TablesView, with_page, with_trial, with_content}
+use Rattle.keeper.specs.Tables.{TablesView, head_at, with_page, with_trial, with_content}
 use Rattle.prov_base.specs.declared.place.Pos.{Pos}
 use Rattle.py_parser.specs.Reading.{HasScript, IsRefusedAt}
 use Rattle.py_tree.specs.Tree.{ScriptTree}
@@ -18,7 +18,7 @@ use Rattle.trace_rows.specs.declared.row.Row.{Row}
 use Rattle.trial_keeping.specs.Trial.{Run, contents_of, head_of, parent_in, with_trial_of}
 use Rattle.kept_trials.proofs.OneRest.{Ways, same_part, not_both, one_rest}
 use Rattle.trial_loading.specs.Loading.{IsDamagedBehind, bad_rest, bad_rows, IsDamagedFrom, bad_script, bad_behind, IsDamagedUnder, bad_text, bad_from, IsDamaged}
-use Rattle.trial_loading.specs.ReadBack.{IsKeptAndRead, rest_of_run}
+use Rattle.trial_loading.specs.ReadBack.{IsReadBack, rest_of_run}
 use Rattle.trial_loading.specs.TrialPages.{HoldsRows, IsPageDamage, HoldPages, rows_on, IsRowDamage}
 use Rattle.trial_tables.specs.Whole.{Check, fine, damaged, whole_page, page_in}
 use Rattle.trial_tables.specs.Written.{Written, put, clash, go_on, put_each, page_of, put_over, put_one, with_pages, next_trial, with_whole}
@@ -183,25 +183,20 @@ kept_pages_stand run before after is = by (put_each (contents_of run) before) re
 
 module _ (ways : Ways) (one_script : (text : List ℕ) (a b : ScriptTree) → HasScript text a → HasScript text b → a ≡ b)
     (not_refused : (text : List ℕ) (tree : ScriptTree) (at : Pos) → HasScript text tree → IsRefusedAt text at → ⊥) where
-  pub never_damaged : (run : Run) (script : ScriptTree) (before after : TablesView) → HasScript run.text script → IsKeptAndRead run before after
-      → ((damage : Damage) → IsRowDamage after (next_trial before) (length run.pages) script.count damage → ⊥) → (damage : Damage) → IsDamaged after (next_trial before) damage → ⊥
-  never_damaged run script before after has kept no_rows damage bad =
-      under (subst (λ (h : Head). IsDamagedUnder after (next_trial before) h damage) (same_Some bad.head head (sym bad.head_is ∙ kept.head)) bad.damage_is)
+  pub never_damaged : (run : Run) (script : ScriptTree) (tables : TablesView) (number parent : ℕ) → HasScript run.text script → head_at tables.heads number ≡ Some (head_of run parent)
+      → IsReadBack run tables (head_of run parent) → ((damage : Damage) → IsRowDamage tables number (length run.pages) script.count damage → ⊥) → (damage : Damage) → IsDamaged tables number damage → ⊥
+  never_damaged run script tables number parent has stands read no_rows damage bad =
+      under (subst (λ (h : Head). IsDamagedUnder tables number h damage) (same_Some bad.head (head_of run parent) (sym bad.head_is ∙ stands)) bad.damage_is)
     where
-      head : Head
-      head = head_of run (parent_in before run.path)
-
-      behind : IsDamagedBehind after (next_trial before) (head_of run (parent_in before run.path)) script.count damage → ⊥
-      behind (bad_rest is) =
-          not_both (rest_of_run run) damage (one_rest ways after (head_of run (parent_in before run.path)) (fine (rest_of_run run)) (damaged damage) kept.read_back.rest is)
+      behind : IsDamagedBehind tables number (head_of run parent) script.count damage → ⊥
+      behind (bad_rest is) = not_both (rest_of_run run) damage (one_rest ways tables (head_of run parent) (fine (rest_of_run run)) (damaged damage) read.rest is)
       behind (bad_rows rest fits rows) = no_rows damage rows
 
-      from : (text : List ℕ) → text ≡ run.text → IsDamagedFrom after (next_trial before) (head_of run (parent_in before run.path)) text damage → ⊥
+      from : (text : List ℕ) → text ≡ run.text → IsDamagedFrom tables number (head_of run parent) text damage → ⊥
       from text same (bad_script at refused place) = not_refused run.text script at has (subst (λ (t : List ℕ). IsRefusedAt t at) same refused)
       from text same (bad_behind tree had is) =
-          behind (subst (λ (t : ScriptTree). IsDamagedBehind after (next_trial before) (head_of run (parent_in before run.path)) t.count damage)
-          (one_script run.text tree script (subst (λ (t : List ℕ). HasScript t tree) same had) has) is)
+          behind (subst (λ (t : ScriptTree). IsDamagedBehind tables number (head_of run parent) t.count damage) (one_script run.text tree script (subst (λ (t : List ℕ). HasScript t tree) same had) has) is)
 
-      under : IsDamagedUnder after (next_trial before) (head_of run (parent_in before run.path)) damage → ⊥
-      under (bad_text is) = not_both run.text damage (sym kept.read_back.script ∙ is)
-      under (bad_from text is found) = from text (same_part text run.text (sym is ∙ kept.read_back.script)) found
+      under : IsDamagedUnder tables number (head_of run parent) damage → ⊥
+      under (bad_text is) = not_both run.text damage (sym read.script ∙ is)
+      under (bad_from text is found) = from text (same_part text run.text (sym is ∙ read.script)) found
