@@ -1,2 +1,3 @@
+pub mod Typed
 pub mod RecordedRun
 pub mod KeptRun

@@ -18,6 +18,7 @@ use Rattle.run_engine.specs.Bare.{EndsAs, RunsBare}
 use Rattle.trace_rows.specs.RowBytes.{AreRows}
 use Rattle.recorder.specs.MomentRows.{rows as rows_of}
 use Rattle.recorder.specs.PageCuts.{pages as pages_of_rows}
+use Rattle.recorded_runs.specs.Typed.{AreTexts, FitsTypes}
 use Rattle.recorded_runs.specs.declared.recording.Recorded.{Recorded}
 
 -- a run that is over, with this capture in the place of its own
@@ -39,11 +40,14 @@ pub record ArePagesOf (moments : List Moment) (pages : List (List ℕ)) : Type 0
   pub pages_are : pages ≡ pages_of_rows (rows_of moments)
   pub fit : AreRows (rows_of moments)
 
--- The run is the bare one, in the capture with its answers as they were asked. Its pages are those of the moments that the script has in that capture.
+-- The run is the bare one, in the capture with its answers as they were asked. Its pages are those of the moments that the script has in that capture. Path and arguments
+-- are texts, and what is kept fits the types in which it is held.
 pub record IsRecordedRun (script : ScriptTree) (path : List ℕ) (arguments : List (List ℕ)) (steps : ℕ) (before after : Telling) (asked : CaptureView) (it : Recorded) : Type 0 where
   pub runs : RunsBare script path arguments steps before after (Ok (with_capture it.ended asked))
   pub in_order : PutsInOrder asked it.ended.capture
   pub pages : ArePagesOf (run script path arguments (capture_of asked after) steps).moments it.pages
+  pub texts : AreTexts path arguments
+  pub fits : FitsTypes it.ended
 
 -- A run over devices that told this before it and tell that after it, recorded. After a lack of memory all is as after a bare run that lacked it.
 abbrev pub RecordsRun : ScriptTree → List ℕ → List (List ℕ) → ℕ → Telling → Telling → Result Recorded Memory → Type 0
@@ -80,3 +84,4 @@ pub record IsFinished (ended : EndedRun) (told : List Moment) (it : Recorded) : 
   pub runs : with_capture it.ended ended.capture ≡ ended
   pub in_order : PutsInOrder ended.capture it.ended.capture
   pub pages : ArePagesOf (reverse told) it.pages
+  pub fits : FitsTypes it.ended

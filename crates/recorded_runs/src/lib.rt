@@ -2,6 +2,7 @@
 //!
 //! - [`record_run`] runs a script over devices with a recorder (`RecordsRun` of `specs/RecordedRun.antt`). The run is that of `run_bare`, and the pages are those of the
 //!   rows of its moments. The answers of its capture are put in ascending order of place and number (`PutsInOrder`), as a trial keeps them.
+//!   Path and arguments are texts, and what is kept fits the types in which it is held (`specs/Typed.antt`).
 //! - [`keep_run`] asks the clock for the start time, records the run, asks for the end time, and keeps the trial (`TimesRun` of `specs/KeptRun.antt`, and the
 //!   clauses of `keep_trial`). A time is none where the clock failed and counted that. A fault in keeping loses nothing of the run.
 //!
@@ -13,6 +14,7 @@
 //! before its answers were put in order.
 #![tactic(auto)]
 
+mod fitting;
 mod keeping;
 mod laws;
 mod recording;
