@@ -14,3 +14,4 @@ pub mod SoundRows
 pub mod Spelling
 pub mod Standing
 pub mod Staying
+pub mod Undamaged

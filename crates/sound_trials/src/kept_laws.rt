@@ -1,6 +1,7 @@
 // The laws of the trials of runs that were recorded and kept: public functions without a body, whose contracts are the laws.
-ghost use Rattle.std.specs.Prelude.{◌≡◌, ℕ, List};
+ghost use Rattle.std.specs.Prelude.{◌≡◌, ℕ, List, true};
 ghost use Rattle.keeper.specs.Tables.{TablesView};
+ghost use Rattle.prov_base.specs.Path.{is_path};
 ghost use Rattle.prov_base.specs.declared.place.Pos.{Pos};
 ghost use Rattle.py_model.specs.Capture.{Telling};
 ghost use Rattle.trial_keeping.specs.Trial.{Run, with_trial_of};
@@ -12,10 +13,9 @@ ghost use Rattle.trial_tables.specs.Written.{put, next_trial};
 ghost use Rattle.trial_tables.specs.declared.damage.Damage.{Damage as OneDamage};
 ghost use Rattle.sound_trials.specs.Recorded.{KeptMore, WasRecorded};
 ghost use Rattle.sound_trials.specs.Sound.{IsSound, RunsAgain};
-ghost use Rattle.sound_trials.specs.Typed.{FitsTypes};
 
 use crate::laws::slices_of_sound_trials_run_again;
-use kept_trials::kept_runs_are_never_damaged;
+use kept_trials::{kept_runs_are_never_damaged, runs_open_paths_alone};
 use py_parser::one_reading;
 use recorded_runs::kept_captures_have_the_run;
 use recorder::pages_are_the_rows;
@@ -48,21 +48,24 @@ pub fn slices_of_kept_trials_run_again()
     slices_of_sound_trials_run_again();
 }
 
-/// The law of reading recorded runs: a recorded run that fits the types of the program can be read back once it is kept. By the run alone its answers are in order,
-/// numbered from 1 and given to questions of their kinds, and each file that it left stands once.
+/// The law of reading recorded runs: a recorded run whose path is one that a script may open can be read back once it is kept. By the types in which it is held its
+/// numbers are in range. By the run its answers are in order, numbered from 1 and given to questions of their kinds, and files have paths that a script may open, each once.
 pub fn recorded_runs_can_be_read()
-    ensures { (run : Run) → WasRecorded run → FitsTypes run → CanBeRead run }
+    ensures { (run : Run) → WasRecorded run → is_path run.path ≡ true → CanBeRead run }
 {
     kept_captures_have_the_run();
+    runs_open_paths_alone();
     lists_are_in_order();
 }
 
-/// The law that the trial of a recorded run is never told as damaged, where the run fits the types of the program: nothing is amiss of it under its number.
+/// The law that the trial of a recorded run is never told as damaged, where its path is one that a script may open: nothing is amiss of it under its number, as it is kept
+/// and after more runs were kept.
 pub fn recorded_runs_are_never_damaged()
-    ensures { (run : Run) (before after : TablesView) → WasRecorded run → FitsTypes run → with_trial_of run before ≡ put after
-        → (damage : OneDamage) → IsDamaged after (next_trial before) damage → ⊥ }
+    ensures { (run : Run) (before after later : TablesView) → WasRecorded run → is_path run.path ≡ true → with_trial_of run before ≡ put after → KeptMore after later
+        → (damage : OneDamage) → IsDamaged later (next_trial before) damage → ⊥ }
 {
     recorded_runs_can_be_read();
     kept_captures_have_the_run();
+    kept_trials_are_read_back();
     kept_runs_are_never_damaged();
 }

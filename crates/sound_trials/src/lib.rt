@@ -6,9 +6,8 @@
 //!   again to an equal value at the same occurrence, in no more steps.
 //! - [`kept_trials_are_sound`]: where a recorded run was kept as a trial, the trial that is loaded then, or after more runs were kept, is sound.
 //! - [`slices_of_kept_trials_run_again`]: so every slice of such a trial runs again.
-//! - [`recorded_runs_can_be_read`]: a recorded run can be read back once it is kept (`CanBeRead` of `trial_loading`), where it fits the types of the program
-//!   (`specs/Typed.antt`).
-//! - [`recorded_runs_are_never_damaged`]: so the trial of such a run is never told as damaged.
+//! - [`recorded_runs_can_be_read`]: a recorded run whose path is one that a script may open can be read back once it is kept (`CanBeRead` of `trial_loading`).
+//! - [`recorded_runs_are_never_damaged`]: so the trial of such a run is never told as damaged, then and after more runs were kept.
 #![tactic(auto)]
 
 mod kept_laws;
