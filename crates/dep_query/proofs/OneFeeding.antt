@@ -9,13 +9,11 @@ use Rattle.py_model.specs.Occurrences.{up_to_evaluation}
 use Rattle.row_moments.specs.Moments.{moments_in}
 use Rattle.trace_rows.specs.declared.row.Row.{Row}
 use Rattle.feedings.specs.declared.site.Site.{Site}
-use Rattle.feedings.specs.Feeding.{IsChain}
-use Rattle.feedings.specs.Sites.{AreSites, sites, site_of, IsTimeOf, AreSources, AreEffects}
+use Rattle.feedings.specs.Sites.{AreSites, sites, site_of, IsTimeOf, Leads, AreFed}
 use Rattle.trial_loading.specs.OneTrial.{AreSame}
 use Rattle.trial_loading.specs.declared.trial.Trial.{Trial}
-use Rattle.dep_query.specs.declared.fed.Way.{Way}
-use Rattle.dep_query.specs.declared.fed.Way.TheVariants.{Sources, Effects}
-use Rattle.dep_query.specs.SiteTexts.{AreFed, IsFedText, LacksSite, site_lines}
+use Rattle.feedings.specs.declared.site.Way.{Way}
+use Rattle.dep_query.specs.SiteTexts.{IsFedText, LacksSite, site_lines}
 
 same_test : (a b : Bool) → (a ≡ true → b ≡ true) → (b ≡ true → a ≡ true) → a ≡ b
 same_test true b to back = sym (to refl)
@@ -37,10 +35,8 @@ one_time at k told s t a b =
     let same : suc t ≡ suc s = sym b.length_is ∙ (ap length (same_Some _ _ (sym b.reached ∙ a.reached)) ∙ a.length_is) in omega (arith, same)
 
 one_fed : (way : Way) (script : ScriptTree) (at : Pos) (k : ℕ) (told : List Moment) (one other : List Site) → AreFed way script at k told one → AreFed way script at k told other → one ≡ other
-one_fed Sources script at k told one other a b =
-    one_list told (λ x. IsChain script told x a.time) one other a.are (subst (λ t. AreSites told (λ x. IsChain script told x t) other) (one_time at k told a.time b.time a.is_time b.is_time) b.are)
-one_fed Effects script at k told one other a b =
-    one_list told (λ y. IsChain script told a.time y) one other a.are (subst (λ t. AreSites told (λ y. IsChain script told t y) other) (one_time at k told a.time b.time a.is_time b.is_time) b.are)
+one_fed way script at k told one other a b =
+    one_list told (λ t. Leads way script told t a.time) one other a.are (subst (λ time. AreSites told (λ t. Leads way script told t time) other) (one_time at k told a.time b.time a.is_time b.is_time) b.are)
 
 pub one_feeding : (trial other : Trial) (way : Way) (at : Pos) (k : ℕ) (text more : List ℕ) → AreSame trial other → IsFedText way at k trial text → IsFedText way at k other more → text ≡ more
 one_feeding trial other way at k text more same a b =
@@ -53,8 +49,7 @@ none_is : {A : Type 0} (found : Option A) (it : A) → found ≡ Some it → fou
 none_is found it some none = cc
 
 found_at : (way : Way) (script : ScriptTree) (at : Pos) (k : ℕ) (told : List Moment) (list : List Site) → AreFed way script at k told list → up_to_evaluation at k told ≡ None → ⊥
-found_at Sources script at k told list are none = none_is (up_to_evaluation at k told) are.is_time.upto are.is_time.reached none
-found_at Effects script at k told list are none = none_is (up_to_evaluation at k told) are.is_time.upto are.is_time.reached none
+found_at way script at k told list are none = none_is (up_to_evaluation at k told) are.is_time.upto are.is_time.reached none
 
 pub not_lacking : (trial other : Trial) (way : Way) (at : Pos) (k : ℕ) (text : List ℕ) → AreSame trial other → IsFedText way at k trial text → LacksSite at k other → ⊥
 not_lacking trial other way at k text same a lacks =

@@ -8,10 +8,9 @@ use Rattle.py_model.specs.Moment.{Moment}
 use Rattle.py_model.specs.Occurrences.{up_to_evaluation}
 use Rattle.row_moments.specs.Moments.{moments_in}
 use Rattle.feedings.specs.declared.site.Site.{Site}
-use Rattle.feedings.specs.Sites.{AreSources, AreEffects}
+use Rattle.feedings.specs.declared.site.Way.{Way}
+use Rattle.feedings.specs.Sites.{AreFed}
 use Rattle.trial_loading.specs.declared.trial.Trial.{Trial}
-use Rattle.dep_query.specs.declared.fed.Way.{Way}
-use Rattle.dep_query.specs.declared.fed.Way.TheVariants.{Sources, Effects}
 
 -- `12:5 1`, and LF
 abbrev pub site_line_of : ℕ → ℕ → ℕ → List ℕ
@@ -23,11 +22,6 @@ site_line site = site_line_of site.at.line site.at.col site.k
 abbrev pub site_lines : List Site → List ℕ
 site_lines [] = []
 site_lines (site ∷ list) = site_line site ++ site_lines list
-
--- the sources of an evaluation, or its effects
-abbrev pub AreFed : Way → ScriptTree → Pos → ℕ → List Moment → List Site → Type 0
-AreFed Sources = AreSources
-AreFed Effects = AreEffects
 
 -- The rows tell the events of a run, among them this evaluation. The list has its sources or its effects, and the text is its lines.
 pub record IsFedText (way : Way) (at : Pos) (k : ℕ) (trial : Trial) (text : List ℕ) : Type 0 where

@@ -1,16 +1,13 @@
 // The sources and the effects of an evaluation of a loaded trial.
-ghost use Rattle.std.specs.Prelude.{◌≡◌, ℕ, map, slice_get, Some, None, Ok, IfOk, IfSome};
+ghost use Rattle.std.specs.Prelude.{◌≡◌, map, None, Ok, IfOk, IfSome};
 ghost use Rattle.py_tree.specs.Erasure.{script_of};
-ghost use Rattle.row_checks.specs.KeptRows.{AreKeptRows, texts_in, tuples_in, view_in};
+ghost use Rattle.row_checks.specs.KeptRows.{AreKeptRows, texts_in, tuples_in};
 ghost use Rattle.row_moments.specs.Moments.{moments_in};
-ghost use Rattle.feedings.specs.Sites.{Finds};
-ghost use Rattle.py_value.specs.Values.{AreInterned};
-ghost use Rattle.row_checks.specs.NamedRows.{NamesRow};
-ghost use Rattle.trace_rows.specs.declared.row.Row.{Row as OneRow};
-ghost use Rattle.dep_query.specs.SiteTexts.{AreFed, IsFedText, LacksSite};
+ghost use Rattle.feedings.specs.Sites.{AreFed, Finds};
+ghost use Rattle.dep_query.specs.SiteTexts.{IsFedText, LacksSite};
 
 use crate::site_lines::lines_of_sites;
-use feedings::{Sites, effects_of, sources_of};
+use feedings::{Sites, Way, feeding_sites};
 use prov_base::{Bytes, Memory, Pos};
 use py_tree::Script;
 use py_value::Value;
@@ -20,34 +17,6 @@ use slice_things::Forms;
 use std::alloc::Global;
 use trace_rows::Row;
 use trial_loading::Trial;
-
-/// What is asked of an evaluation: the evaluations that feed it, or those that it feeds.
-#[derive(Clone, Copy, Debug)]
-pub enum Way {
-    /// Those that feed it.
-    Sources,
-    /// Those that it feeds.
-    Effects,
-}
-
-// The evaluations that are asked for, among rows whose texts and tuples are interned.
-fn found_among(
-    alloc: Global,
-    way: Way,
-    script: &Script,
-    rows: &[Row],
-    at: Pos,
-    k: u32,
-) -> Result<Option<Sites>, Memory>
-    requires interned { AreInterned (view_in rows.now) }
-    requires named { (i : ℕ) (row : OneRow) → slice_get rows.now i ≡ Some row → NamesRow (view_in rows.now) row }
-    ensures { IfOk result (λ found. Finds (AreFed way (script_of script.now) at k (moments_in rows.now)) at k (moments_in rows.now) found) }
-{
-    match way {
-        Way::Sources => sources_of(alloc, script, rows, at, k),
-        Way::Effects => effects_of(alloc, script, rows, at, k),
-    }
-}
 
 // The evaluations that are asked for, among kept rows whose texts and tuples were gathered. The table of forms takes all of these, so they are few.
 fn found_by(
@@ -69,7 +38,7 @@ fn found_by(
     rows_in_order_are_interned();
     let forms = Forms::of(alloc, names, parts)?;
     drop(forms);
-    found_among(alloc, way, script, rows, at, k)
+    feeding_sites(alloc, way, script, rows, at, k)
 }
 
 // The evaluations that are asked for, among kept rows.

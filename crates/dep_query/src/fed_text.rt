@@ -7,7 +7,8 @@ ghost use Rattle.trial_slice.specs.Questions.{AnswersSome, AnswersTrial};
 ghost use Rattle.trial_tables.specs.Causes.{Causes};
 ghost use Rattle.dep_query.specs.SiteTexts.{IsFedText, LacksSite};
 
-use crate::fed::{Way, feeding};
+use crate::fed::feeding;
+use feedings::Way;
 use keeper::Keeper;
 use prov_base::{Bytes, Pos};
 use std::alloc::Global;

@@ -5,7 +5,7 @@ ghost use Rattle.trial_loading.specs.OneTrial.{AreSame};
 ghost use Rattle.trial_loading.specs.declared.trial.Trial.{Trial as OneTrial};
 ghost use Rattle.dep_query.specs.Dataflows.{IsDataflow};
 ghost use Rattle.dep_query.specs.SiteTexts.{IsFedText, LacksSite};
-ghost use Rattle.dep_query.specs.declared.fed.Way.{Way as OneWay};
+ghost use Rattle.feedings.specs.declared.site.Way.{Way as OneWay};
 
 /// The law that a trial has one dataflow.
 pub fn one_dataflow_of_a_trial()

@@ -5,9 +5,11 @@
 //! - [`dataflow`] answers for a loaded trial: a line for each, and behind the first 100,000 `more` if there are more (`IsDataflow` of `specs/Dataflows.antt`).
 //! - [`dataflow_text`] answers the same of a trial in a keeper, which is loaded first: the lines, or why there are none. `of_trial` holds over any keeper, also one that
 //!   exposes nothing: the lines are those of some trial with this number, whose text is its script and whose rows are kept rows.
-//! - [`one_dataflow_of_a_trial`]: a trial has one dataflow. [`order_of_dependences`]: dependences are ordered as their lines are.
+//! - [`feeding`] and [`feeding_text`] answer in the same two ways which evaluations feed one, or which ones it feeds: a line for each (`IsFedText` of
+//!   `specs/SiteTexts.antt`).
+//! - [`one_dataflow_of_a_trial`]: a trial has one dataflow, and by [`one_feeding_of_a_trial`] one text of each feeding. [`order_of_dependences`]: dependences are ordered as their lines are.
 //!
-//! The rows are passed once, by `slice_edges`. Each dependence is then put into a tree, so the cost grows with rows and dependences, times a logarithm.
+//! For a dataflow the rows are passed once, by `slice_edges`. Each dependence is then put into a tree, so the cost grows with rows and dependences, times a logarithm.
 //!
 //! The keeper's tables stay, whatever is answered. `Keeper` is answered only where its count of faults rose. A call that is always out of memory meets these clauses:
 //! that calls succeed is not said here.
@@ -26,7 +28,7 @@ mod text;
 
 pub use answering::dataflow;
 pub use dependence::{Dependence, Kind, order_of_dependences};
-pub use fed::{Way, feeding};
+pub use fed::feeding;
 pub use fed_text::feeding_text;
 pub use gathering::dependences;
 pub use laws::{one_dataflow_of_a_trial, one_feeding_of_a_trial};

@@ -1,13 +1,13 @@
 -- The marked moments of a run, as the evaluations that are answered.
-use Rattle.std.proofs.Common.{◌≡◌, ◌↔◌, ℕ, suc, ◌<◌, ◌≤◌, ◌==◌, ◌&&◌, Bool, true, false, List, [], ◌∷◌, reverse, length, Option, Some, None, refl, sym, ap, subst, ◌∙◌, arith, if◌then◌else◌}
+use Rattle.std.proofs.Common.{◌≡◌, ◌↔◌, ℕ, suc, ◌<◌, ◌≤◌, ◌==◌, ◌&&◌, Bool, true, false, List, [], ◌∷◌, length, Some, refl, sym, ap, ◌∙◌, arith, if◌then◌else◌}
 use Rattle.std.proofs.lemmas.Option.{same_Some}
 use Rattle.prov_base.specs.declared.place.Pos.{Pos}
 use Rattle.py_tree.specs.Tree.{ScriptTree}
 use Rattle.py_model.specs.Moment.{Moment}
 use Rattle.py_model.specs.Occurrences.{up_to_evaluation, evaluations_at, is_evaluation_at}
 use Rattle.feedings.specs.declared.site.Site.{Site}
-use Rattle.feedings.specs.Feeding.{IsChain}
-use Rattle.feedings.specs.Sites.{AreSites, sites, IsTimeOf, AreSources, AreEffects}
+use Rattle.feedings.specs.declared.site.Way.{Way}
+use Rattle.feedings.specs.Sites.{AreSites, sites, IsTimeOf, Leads, AreFed}
 use Rattle.feedings.specs.Marks.{mark_at}
 
 -- the moments up to an evaluation are no more than all
@@ -26,8 +26,5 @@ marked_sites : (told : List Moment) (Chosen : ℕ → Type 0) (marks : List Bool
 marked_sites told Chosen marks list same are = record { chosen = mark_at marks; only = λ t. (same t).0; all = λ t. (same t).1; are = are }
 
 module _ (script : ScriptTree) (at : Pos) (k : ℕ) (told : List Moment) (time : ℕ) (is_time : IsTimeOf at k told time) (marks : List Bool) (list : List Site) (are : list ≡ sites (mark_at marks) told) where
-  pub found_sources : ((t : ℕ) → (mark_at marks t ≡ true) ↔ IsChain script told t time) → AreSources script at k told list
-  found_sources same = record { time = time; is_time = is_time; are = marked_sites told (λ x. IsChain script told x time) marks list same are }
-
-  pub found_effects : ((t : ℕ) → (mark_at marks t ≡ true) ↔ IsChain script told time t) → AreEffects script at k told list
-  found_effects same = record { time = time; is_time = is_time; are = marked_sites told (λ y. IsChain script told time y) marks list same are }
+  pub found_fed : (way : Way) → ((t : ℕ) → (mark_at marks t ≡ true) ↔ Leads way script told t time) → AreFed way script at k told list
+  found_fed way same = record { time = time; is_time = is_time; are = marked_sites told (λ t. Leads way script told t time) marks list same are }

@@ -1,15 +1,12 @@
 -- Which operation feeds which in the moments of a run, the latest first (this project's profile). A moment's time is how many moments were before it.
-use Rattle.std.specs.Prelude.{◌≡◌, ℕ, suc, ◌==◌, ◌&&◌, nat_le, nat_lt, Bool, true, false, List, [], ◌∷◌, ◌++◌, length, slice_get, Option, Some, None, if◌then◌else◌}
+use Rattle.std.specs.Prelude.{◌≡◌, ℕ, ◌==◌, Bool, true, false, List, [], ◌∷◌, ◌++◌, length, slice_get, Option, Some, None, if◌then◌else◌}
 use Rattle.prov_base.specs.declared.place.Pos.{Pos}
-use Rattle.prov_base.specs.contracts.place.PosPartialEq.TheImpl.{ghosts as places}
 use Rattle.py_tree.specs.Places.{suite_starts}
 use Rattle.py_tree.specs.Tree.{ScriptTree}
 use Rattle.py_value.specs.Seen.{SeenAccess, reads}
 use Rattle.py_model.specs.Moment.{Moment, begins, does, enters, leaves, ends, return_end}
-use Rattle.py_model.specs.Occurrences.{reach, is_evaluation_at, evaluations_at, up_to_evaluation}
+use Rattle.py_model.specs.Occurrences.{reach}
 use Rattle.slice_law.specs.Closed.{has}
-use Rattle.value_links.specs.declared.link.Point.{Point}
-use Rattle.value_links.specs.declared.link.Link.{Link}
 use Rattle.value_links.specs.Taken.{Done, taken_by_links}
 use Rattle.value_links.specs.Links.{given_as, taken_as, an_enter, a_return, links}
 

@@ -1,6 +1,6 @@
 -- No public clause cites this file.
 -- Evaluations and moments among rows, and how many evaluations there were at a place.
-use Rattle.std.specs.Prelude.{◌≡◌, ◌∷◌, [], ℕ, suc, Bool, true, false, List, reverse, slice_index_or, Option, Some, None, unwrap_or, if◌then◌else◌}
+use Rattle.std.specs.Prelude.{◌≡◌, ◌∷◌, [], ℕ, suc, Bool, true, false, List, reverse, Option, Some, None, unwrap_or, if◌then◌else◌}
 use Rattle.std.specs.Map.{lookup}
 use Rattle.prov_base.specs.declared.place.Pos.{Pos}
 use Rattle.prov_base.specs.contracts.place.PosPartialEq.TheImpl.{ghosts as places}

@@ -1,14 +1,12 @@
 -- Which evaluations are the sources and the effects of one, by place and number (this project's profile). A moment's time is how many moments were before it.
-use Rattle.std.specs.Prelude.{◌≡◌, ℕ, suc, ◌==◌, ◌&&◌, nat_le, nat_lt, Bool, true, false, List, [], ◌∷◌, ◌++◌, length, slice_get, Option, Some, None, if◌then◌else◌}
+use Rattle.std.specs.Prelude.{◌≡◌, ℕ, suc, Bool, true, List, [], ◌∷◌, ◌++◌, length, Option, Some, None, if◌then◌else◌}
 use Rattle.prov_base.specs.declared.place.Pos.{Pos}
-use Rattle.prov_base.specs.contracts.place.PosPartialEq.TheImpl.{ghosts as places}
-use Rattle.py_tree.specs.Places.{suite_starts}
 use Rattle.py_tree.specs.Tree.{ScriptTree}
-use Rattle.py_value.specs.Seen.{SeenAccess, reads}
-use Rattle.py_model.specs.Moment.{Moment, begins, does, enters, leaves, ends, return_end}
-use Rattle.py_model.specs.Occurrences.{reach, is_evaluation_at, evaluations_at, up_to_evaluation}
-use Rattle.slice_law.specs.Closed.{has}
+use Rattle.py_model.specs.Moment.{Moment, does}
+use Rattle.py_model.specs.Occurrences.{is_evaluation_at, evaluations_at, up_to_evaluation}
 use Rattle.feedings.specs.declared.site.Site.{Site}
+use Rattle.feedings.specs.declared.site.Way.{Way}
+use Rattle.feedings.specs.declared.site.Way.TheVariants.{Sources, Effects}
 use Rattle.feedings.specs.Feeding.{IsChain}
 
 -- evaluations at chosen times, by place and number, in the order of their moments
@@ -34,16 +32,16 @@ pub record IsTimeOf (at : Pos) (k : ℕ) (told : List Moment) (time : ℕ) : Typ
   pub reached : up_to_evaluation at k told ≡ Some upto
   pub length_is : length upto ≡ suc time
 
--- The sources of the k-th evaluation at a place are those from which chains of feedings lead to it, and its effects those to which chains lead from it.
-pub record AreSources (script : ScriptTree) (at : Pos) (k : ℕ) (told : List Moment) (list : List Site) : Type 0 where
-  pub time : ℕ
-  pub is_time : IsTimeOf at k told time
-  pub are : AreSites told (λ x. IsChain script told x time) list
+-- a moment is among those that feed another one, or among those that this one feeds
+abbrev pub Leads : Way → ScriptTree → List Moment → ℕ → ℕ → Type 0
+Leads Sources script told t time = IsChain script told t time
+Leads Effects script told t time = IsChain script told time t
 
-pub record AreEffects (script : ScriptTree) (at : Pos) (k : ℕ) (told : List Moment) (list : List Site) : Type 0 where
+-- The sources of the k-th evaluation at a place are those from which chains of feedings lead to it, and its effects those to which chains lead from it.
+pub record AreFed (way : Way) (script : ScriptTree) (at : Pos) (k : ℕ) (told : List Moment) (list : List Site) : Type 0 where
   pub time : ℕ
   pub is_time : IsTimeOf at k told time
-  pub are : AreSites told (λ y. IsChain script told time y) list
+  pub are : AreSites told (λ t. Leads way script told t time) list
 
 -- they are found, or there is no such evaluation
 abbrev pub Finds : (List Site → Type 0) → Pos → ℕ → List Moment → Option (List Site) → Type 0

@@ -11,7 +11,7 @@ use indexmap::IndexMap;
 use prov_base::{Memory, Pos};
 use std::alloc::Global;
 use std::marker::Model;
-use value_links::{Point, Taking};
+use value_links::{A_RETURN, Point, Taking};
 
 /// When an operation was done last at each point.
 #[derive(Drop)]
@@ -163,7 +163,7 @@ impl Dones {
         ensures { (links : List OneLink) (dones : List (List Done)) → IsTaking links taking.now → AreDone self.now dones → IfOk result (λ times. times.items ≡ taken_by_return at (first_done dones) links) }
     {
         match at {
-            Some(at) => self.taken(alloc, taking, Point { at, kind: 201 }, 0),
+            Some(at) => self.taken(alloc, taking, Point { at, kind: A_RETURN }, 0),
             None => Ok(Vec::new(alloc)),
         }
     }

@@ -2,8 +2,8 @@
 //!
 //! - `specs/Feeding.antt` says which event of a run feeds which: the operations whose answers it takes along the links of the script (`value_links`); for the value
 //!   of a call that which gave the value of the `return`; and those that set or changed what it reads.
-//! - [`sources_of`] gives the evaluations from which chains of feedings lead to the k-th evaluation at a place, and [`effects_of`] those to which they lead from it, in the
-//!   order of their events (`AreSources`, `AreEffects` of `specs/Sites.antt`). `None` comes exactly where the rows have no such evaluation.
+//! - [`feeding_sites`] gives the sources of the k-th evaluation at a place, from which chains of feedings lead to it, or its effects, to which they lead from it, in the
+//!   order of their events (`AreFed` of `specs/Sites.antt`). `None` comes exactly where the rows have no such evaluation.
 //!
 //! One pass over the rows finds what passes to each event. A pass forward then marks what is fed, and a pass backward what feeds, each with a flag for every location, so
 //! the cost grows with rows, accesses and passed values alone, times the look-up in a map.
@@ -26,5 +26,5 @@ mod site;
 mod sites;
 mod stack;
 
-pub use answers::{effects_of, sources_of};
-pub use site::{Site, Sites};
+pub use answers::feeding_sites;
+pub use site::{Site, Sites, Way};

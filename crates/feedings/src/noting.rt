@@ -25,7 +25,7 @@ use py_model::How;
 use py_tree::Script;
 use std::alloc::Global;
 use trace_rows::Row;
-use value_links::{Point, Taking, links_of, places_of};
+use value_links::{AN_ENTER, Point, Taking, links_of, places_of};
 
 /// What is known after rows: what is open, the times that were returned in the activation that the last moment left, and what passed to each moment.
 #[derive(Drop)]
@@ -98,7 +98,7 @@ impl Noting {
             → IsTaking (links script) taking.now → length values ≡ count → HasNoted script self.old told
             → OnOk result (HasNoted script self.new (enters at def values accesses ∷ told)) }
     {
-        let to = Point { at, kind: 200 };
+        let to = Point { at, kind: AN_ENTER };
         let times = self.stack.taken(alloc, taking, to, count)?;
         self.left = Times::of(Vec::new(alloc));
         self.fed.push(Times::of(times))?;

@@ -9,6 +9,15 @@ pub struct Site {
     pub k: usize,
 }
 
+/// What is asked of an evaluation.
+#[derive(Clone, Copy, Debug)]
+pub enum Way {
+    /// The evaluations that feed it.
+    Sources,
+    /// The evaluations that it feeds.
+    Effects,
+}
+
 /// Evaluations, in the order of their moments.
 #[derive(Drop)]
 pub struct Sites {

@@ -36,8 +36,8 @@ use Rattle.trial_replay.specs.declared.replaying.Replayed.TheVariants.{Lines, No
 use Rattle.trial_tables.specs.Written.{put, clash}
 use Rattle.trial_value.specs.Values.{IsValueAt}
 use Rattle.dep_query.specs.SiteTexts.{IsFedText}
-use Rattle.dep_query.specs.declared.fed.Way.{Way}
-use Rattle.dep_query.specs.declared.fed.Way.TheVariants.{Sources as to_it, Effects as from_it}
+use Rattle.feedings.specs.declared.site.Way.{Way}
+use Rattle.feedings.specs.declared.site.Way.TheVariants.{Sources as to_it, Effects as from_it}
 use Rattle.now_top.specs.Completes.{IsTold, Completes, as_meant, by_console, by_folder, by_store, by_collision, by_full, no_memory, DoesWhole, DoesAsMeant, WritesPrefixes, WritesSlice, WritesAnswer, KeepsOne, RepliesBy, leaves_tables}
 use Rattle.capture.specs.declared.ended.RunEnd.{RunEnd}
 use Rattle.capture.specs.declared.ended.RunEnd.TheVariants.{Finished, Raised, Spent}

@@ -32,8 +32,8 @@ use Rattle.now_top.specs.Means.{MeansCommand}
 use Rattle.py_model.specs.Occurrences.{up_to_evaluation}
 use Rattle.row_moments.specs.Moments.{moments_in}
 use Rattle.trial_slice.specs.Sliced.{IsSliceOf}
-use Rattle.dep_query.specs.declared.fed.Way.{Way}
-use Rattle.dep_query.specs.declared.fed.Way.TheVariants.{Sources as to_it, Effects as from_it}
+use Rattle.feedings.specs.declared.site.Way.{Way}
+use Rattle.feedings.specs.declared.site.Way.TheVariants.{Sources as to_it, Effects as from_it}
 use Rattle.now_top.specs.Reply.{telling, RepliesOf, well_kept, not_there, amiss, ShowsLines, Slices, sliced, unevaluated, Answered, answered, unanswered, DataflowOf, ValuesOf, FeedingsOf, ReplaysOf, Reply}
 
 false_is : false ≡ true → ⊥

@@ -25,8 +25,8 @@ use Rattle.trial_replay.specs.Replays.{IsReplayAt}
 use Rattle.trial_replay.specs.declared.replaying.Replayed.{Replayed}
 use Rattle.trial_replay.specs.declared.replaying.Replayed.TheVariants.{Lines, NotReached}
 use Rattle.dep_query.specs.SiteTexts.{IsFedText, LacksSite}
-use Rattle.dep_query.specs.declared.fed.Way.{Way}
-use Rattle.dep_query.specs.declared.fed.Way.TheVariants.{Sources as to_it, Effects as from_it}
+use Rattle.feedings.specs.declared.site.Way.{Way}
+use Rattle.feedings.specs.declared.site.Way.TheVariants.{Sources as to_it, Effects as from_it}
 use Rattle.trial_value.specs.Values.{IsValueAt, LacksEvaluation}
 use Rattle.now_top.specs.Seen.{Seen}
 use Rattle.now_top.specs.World.{Plan, closing}

@@ -8,7 +8,8 @@ ghost use Rattle.now_top.specs.Reply.{replaying, telling};
 
 use crate::planned::{Planned, ending_without};
 use delivery::Ending;
-use dep_query::{Way, dataflow_text, feeding_text};
+use dep_query::{dataflow_text, feeding_text};
+use feedings::Way;
 use keeper::Keeper;
 use now_words::{Evaluation, Query};
 use prov_base::Bytes;

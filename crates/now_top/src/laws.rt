@@ -24,7 +24,7 @@ ghost use Rattle.trial_replay.specs.Replays.{IsReplayAt};
 ghost use Rattle.trial_replay.specs.declared.replaying.Replayed.TheVariants.{Lines};
 ghost use Rattle.trial_value.specs.Values.{IsValueAt};
 ghost use Rattle.dep_query.specs.SiteTexts.{IsFedText};
-ghost use Rattle.dep_query.specs.declared.fed.Way.TheVariants.{Sources as to_it, Effects as from_it};
+ghost use Rattle.feedings.specs.declared.site.Way.TheVariants.{Sources as to_it, Effects as from_it};
 ghost use Rattle.keeper.specs.Tables.{head_at};
 ghost use Rattle.now_top.specs.Restored.{EndsRestoring, RestoredWhole, RestoresTrial};
 

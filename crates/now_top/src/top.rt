@@ -7,7 +7,7 @@ ghost use Rattle.now_words.specs.declared.command.Evaluation.{Evaluation as OneE
 ghost use Rattle.now_words.specs.declared.command.Query.TheVariants.{Dataflow, Slice, Value, Replay, Sources, Effects};
 ghost use Rattle.dep_query.specs.Dataflows.{IsDataflow};
 ghost use Rattle.dep_query.specs.SiteTexts.{IsFedText};
-ghost use Rattle.dep_query.specs.declared.fed.Way.TheVariants.{Sources as to_it, Effects as from_it};
+ghost use Rattle.feedings.specs.declared.site.Way.TheVariants.{Sources as to_it, Effects as from_it};
 ghost use Rattle.trial_replay.specs.Replays.{IsReplayAt};
 ghost use Rattle.trial_replay.specs.declared.replaying.Replayed.TheVariants.{Lines};
 ghost use Rattle.trial_value.specs.Values.{IsValueAt};

@@ -16,5 +16,6 @@ mod target_links;
 
 pub use link::{Link, Point};
 pub use links::links_of;
+pub use making::{A_RETURN, AN_ENTER};
 pub use places::places_of;
 pub use taking::Taking;

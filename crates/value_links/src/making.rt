@@ -8,10 +8,11 @@ use crate::link::{Link, Point};
 use prov_base::Pos;
 use py_tree::Expr;
 
-/// What an Enter is, and a `return`, to those whose answers it takes.
-pub(crate) const AN_ENTER: u8 = 200;
+/// What an Enter is to those whose answers it takes.
+pub const AN_ENTER: u8 = 200;
 
-pub(crate) const A_RETURN: u8 = 201;
+/// What a `return` is to those whose answers it takes.
+pub const A_RETURN: u8 = 201;
 
 /// An operation at a place.
 pub(crate) fn point(at: Pos, kind: u8) -> Point

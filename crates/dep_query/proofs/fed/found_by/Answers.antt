@@ -11,9 +11,9 @@ of-requires c =
     c.requires.texts c.requires.tuples
     (c.rows_in_order_are_interned.ensures.order rows (c.kept_rows_name_in_order.ensures c.args.script.now.count rows c.requires.kept))
 
-pub found_among-requires-clause-interned : goal.found_among-requires-clause-interned
-found_among-requires-clause-interned c =
+pub feeding_sites-requires-clause-interned : goal.feeding_sites-requires-clause-interned
+feeding_sites-requires-clause-interned c =
     of_rows AreInterned (map (λ k. k.now) c.args.names.now) (map (λ k. k.now) c.args.parts.now) c.args.rows.now c.requires.texts c.requires.tuples c.in_ok-forms.ensures.interned
 
-pub found_among-requires-clause-named : goal.found_among-requires-clause-named
-found_among-requires-clause-named c = c.rows_in_order_are_interned.ensures.named c.args.rows.now (c.kept_rows_name_in_order.ensures c.args.script.now.count c.args.rows.now c.requires.kept)
+pub feeding_sites-requires-clause-named : goal.feeding_sites-requires-clause-named
+feeding_sites-requires-clause-named c = c.rows_in_order_are_interned.ensures.named c.args.rows.now (c.kept_rows_name_in_order.ensures c.args.script.now.count c.args.rows.now c.requires.kept)

@@ -3,7 +3,7 @@ use Rattle.now_words.specs.declared.command.Query.TheVariants.{Sources}
 use Rattle.now_top.proofs.Questioning.{question_answers}
 use Rattle.now_top.specs.Reply.{telling, answered, unanswered, FeedingsOf}
 use Rattle.dep_query.specs.SiteTexts.{IsFedText, LacksSite}
-use Rattle.dep_query.specs.declared.fed.Way.TheVariants.{Sources as to_it}
+use Rattle.feedings.specs.declared.site.Way.TheVariants.{Sources as to_it}
 use Rattle.now_top.proofs.asking.answer_sources.Goals as goal
 
 pub returns-clause-answers : goal.returns-clause-answers

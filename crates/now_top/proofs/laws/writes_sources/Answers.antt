@@ -3,7 +3,7 @@ use Rattle.now_words.specs.declared.command.Query.TheVariants.{Sources}
 use Rattle.now_top.proofs.Completing.{reply_so, reply_answers, feeding_done, answers_so}
 use Rattle.now_top.specs.Reply.{FeedingsOf}
 use Rattle.dep_query.specs.SiteTexts.{IsFedText}
-use Rattle.dep_query.specs.declared.fed.Way.TheVariants.{Sources as to_it}
+use Rattle.feedings.specs.declared.site.Way.TheVariants.{Sources as to_it}
 use Rattle.now_top.proofs.laws.writes_sources.Goals as goal
 
 pub returns : goal.returns
