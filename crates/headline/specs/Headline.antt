@@ -1,9 +1,11 @@
--- What `slice` and `replay` write of a trial that `run` kept (after Korel and Laski 1988; this project's profile).
-use Rattle.std.specs.Prelude.{◌≡◌, ◌≤◌, ℕ, List, ◌++◌}
+-- What `slice` and `replay` write of a trial that `run` kept (after Korel and Laski 1988; this project's profile), and which commands ask for a trial.
+use Rattle.std.specs.Prelude.{◌≡◌, ◌≤◌, ⊤, ℕ, List, ◌++◌}
 use Rattle.held_rows.specs.ValueTexts.{IsValueText}
 use Rattle.keeper.specs.Tables.{TablesView}
 use Rattle.now_top.specs.Seen.{Seen}
 use Rattle.now_words.specs.declared.command.Evaluation.{Evaluation}
+use Rattle.now_words.specs.declared.command.Query.{Query}
+use Rattle.now_words.specs.declared.command.Query.TheVariants.{List as list_query, History, Show, Dataflow, Slice, Value, Replay, Sources, Effects}
 use Rattle.prov_outside.specs.Console.{ConsoleView}
 use Rattle.prov_outside.specs.Tells.{Tells}
 use Rattle.py_model.specs.Capture.{Telling, opening_in}
@@ -37,3 +39,15 @@ pub record GivesTheValue (of : Evaluation) (tables : TablesView) (ends : Telling
   pub written : (text : List ℕ) → IsValueAt of.at of.k trial text → text ≡ value_lines graph steps
   pub no_more : cost ≤ steps
   pub console : Tells before.console after.console (λ (was is : ConsoleView). is.written ≡ was.written ++ value_lines graph cost)
+
+-- the command that reads the store asks for this trial, or for none
+abbrev pub AsksNoOther : ℕ → Query → Type 0
+AsksNoOther number list_query = ⊤
+AsksNoOther number History = ⊤
+AsksNoOther number (Show trial) = trial ≡ number
+AsksNoOther number (Dataflow trial) = trial ≡ number
+AsksNoOther number (Slice of) = of.trial ≡ number
+AsksNoOther number (Value of) = of.trial ≡ number
+AsksNoOther number (Replay of) = of.trial ≡ number
+AsksNoOther number (Sources of) = of.trial ≡ number
+AsksNoOther number (Effects of) = of.trial ≡ number

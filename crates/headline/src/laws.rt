@@ -8,16 +8,19 @@ ghost use Rattle.now_top.specs.Replies.{Replies};
 ghost use Rattle.now_top.specs.Seen.{Seen};
 ghost use Rattle.now_words.specs.Command.{command_of, reads, run_kept};
 ghost use Rattle.now_words.specs.declared.command.Evaluation.{Evaluation as OneEvaluation};
+ghost use Rattle.now_words.specs.declared.command.Query.{Query as Question};
 ghost use Rattle.now_words.specs.declared.command.Query.TheVariants.{Slice, Replay};
 ghost use Rattle.py_model.specs.Capture.{Telling};
 ghost use Rattle.trial_tables.specs.Written.{next_trial};
-ghost use Rattle.headline.specs.Headline.{GivesTheValue, WritesSliceThatRuns};
+ghost use Rattle.headline.specs.Headline.{AsksNoOther, GivesTheValue, WritesSliceThatRuns};
 
 use now_top::{
     keeps_trial, replies_by_tables, stores_have_trials_of_runs, writes_replay, writes_slice,
 };
 use replays::replayed_slices_give_the_value;
-use sound_trials::{kept_trials_are_sound, slices_of_kept_trials_run_again};
+use sound_trials::{
+    kept_trials_are_sound, recorded_runs_are_never_damaged, slices_of_kept_trials_run_again,
+};
 
 /// The law of the program. `run FILE` came to a status of a run, and kept it as a trial. Then come any calls of the program, and then `slice` of that trial with status 0. What
 /// it has written is the script cut to the least set of statements that the value depends on, and the script without the others, run in what the devices gave, gives an
@@ -58,4 +61,20 @@ pub fn replays_give_the_value()
     kept_trials_are_sound();
     slices_of_kept_trials_run_again();
     replayed_slices_give_the_value();
+}
+
+/// The law of damage. `run FILE` came to a status of a run, and kept it as a trial. Then come any calls of the program, and then a command that reads the store and asks for
+/// that trial, or for none: `list`, `history`, `show`, `dataflow`, `slice`, `value`, `replay`, `sources` or `effects`. It never comes to status 11: nothing is amiss of the
+/// trial. The store exposes its tables as in the laws above.
+pub fn kept_trials_are_never_damaged()
+    ensures { (words : List (List ℕ)) (before after : Seen) (was is : Stored) (status : ℕ) → Replies words before after was is status → (steps : ℕ) (file : List ℕ) (arguments : List (List ℕ))
+        → command_of words ≡ Some (run_kept steps file arguments) → (status ≡ 0) ⊎ ((status ≡ 1) ⊎ (status ≡ 9)) → (at : Stored) → Calls is at
+        → (asking : List (List ℕ)) (seen shown : Seen) (end : Stored) → Replies asking seen shown at end 11 → (query : Question) → command_of asking ≡ Some (reads query)
+        → (old new : KeeperView) (tables : TablesView) → was.told ≡ Some old → is.told ≡ Some new → tables_told at end ≡ Some tables → AsksNoOther (next_trial old.committed) query
+        → ⊥ }
+{
+    keeps_trial();
+    stores_have_trials_of_runs();
+    replies_by_tables();
+    recorded_runs_are_never_damaged();
 }
