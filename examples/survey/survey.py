@@ -147,7 +147,6 @@ def main():
     for district in districts:
         means[district.name] = mean_of(district.minutes)
         answers += len(district.minutes)
-    write_table('means.txt', districts, means)
     print('answers:', answers, 'of', survey.rows, 'rows')
     for reason in sorted(survey.bad):
         print('  ' + str(survey.bad[reason]), 'with', reason)
@@ -156,6 +155,7 @@ def main():
     found = resampled_means(districts, Generator(int(sys.argv[3])))
     cut = RESAMPLES // 10
     print('in', RESAMPLES - 2 * cut, 'of', RESAMPLES, 'resamples:', fixed(found[cut]), 'to', fixed(found[RESAMPLES - cut - 1]))
+    write_table('means.txt', districts, means)
 
 
 if __name__ == '__main__':
